@@ -1,0 +1,9 @@
+mod Checks
+mod JointLaws
+mod Listing
+mod PeriodicLaws
+mod Places
+mod Quotients
+mod RowBook
+mod Tallies
+mod WindowLaws

@@ -1,0 +1,2 @@
+pub mod Delay
+pub mod Order

@@ -1,0 +1,4 @@
+pub mod Entries
+pub mod Drafts
+pub mod Sheets
+pub mod Plans
