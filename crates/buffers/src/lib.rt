@@ -1,4 +1,6 @@
 // Send buffers: what waits on a controller, frame by frame, in sending order.
+#![tactic(auto)]
+
 pub mod buffer;
 pub mod instance;
 pub mod joint;

@@ -1,3 +1,5 @@
 // A table text as its lines, and the sheet that they make.
+#![tactic(auto)]
+
 pub mod sheet;
 pub mod table;

@@ -1,4 +1,6 @@
 // The ranked list: elements in the order of their rank, equal ranks as they came, in a list that each call is lent.
+#![tactic(auto)]
+
 ghost use Rattle.std.specs.Prelude.{◌≡◌, ℕ, ◌<◌, ◌≤◌, Bool, true, false, length, is_ok, vec_len, vec_capacity, MatchResult, nat_lt, slice_index_or};
 ghost use Rattle.ranked.specs.Ranks.{Placed, Ascending};
 
@@ -18,8 +20,8 @@ pub trait Rank {
 // The place of the first element that ranks above x, or the list's length where none does.
 fn place_for<T: Rank>(list: &[T], x: &T) -> usize
     ensures within { result ≤ length list.now }
-    ensures before { (k : ℕ) (d : T) → k < result → upto (slice_index_or list.now k d) x.now ≡ true }
-    ensures stop { (d : T) → result < length list.now → upto (slice_index_or list.now result d) x.now ≡ false }
+    ensures before { (k : ℕ) (d : T) → k < result → T.upto (slice_index_or list.now k d) x.now ≡ true }
+    ensures stop { (d : T) → result < length list.now → T.upto (slice_index_or list.now result d) x.now ≡ false }
 {
     for (i, y) in list.iter().enumerate() {
         if !y.is_upto(x) {
@@ -33,8 +35,8 @@ fn place_for<T: Rank>(list: &[T], x: &T) -> usize
 // back, and the list stays as it was.
 pub fn insert<T: Rank>(list: &mut Vec<T>, x: T) -> Result<(), T>
     ensures room { is_ok result ≡ nat_lt (vec_len list.old) (vec_capacity list.old) }
-    ensures placed { MatchResult result (λ _. Placed upto x list.old.items list.new.items) (λ y. (y ≡ x) × (list.new.items ≡ list.old.items)) }
-    ensures ascending { Ascending upto list.old.items → Ascending upto list.new.items }
+    ensures placed { MatchResult result (λ _. Placed T.upto x list.old.items list.new.items) (λ y. (y ≡ x) × (list.new.items ≡ list.old.items)) }
+    ensures ascending { Ascending T.upto list.old.items → Ascending T.upto list.new.items }
     ensures capacity { vec_capacity list.new ≡ vec_capacity list.old }
 {
     if list.len() >= list.capacity() {

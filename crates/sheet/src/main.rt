@@ -1,4 +1,6 @@
 // The sheet program: a table from standard input, its sheet to standard output.
+#![tactic(auto)]
+
 use std::io::Read;
 
 // One byte more than a text may have: that tells a text that is too long, and standard input may be endless.

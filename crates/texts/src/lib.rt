@@ -1,4 +1,6 @@
 // Table text in, sheet text out.
+#![tactic(auto)]
+
 pub mod cut;
 pub mod digits;
 pub mod fault;

@@ -1,4 +1,6 @@
 // Worked cases, as theorems about the rules.
+#![tactic(auto)]
+
 ghost use Rattle.std.specs.Prelude.{◌≡◌, length};
 ghost use Rattle.worked.specs.Cases.{cases_of_sheets, AllAnswered};
 
