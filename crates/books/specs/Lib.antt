@@ -9,5 +9,6 @@ pub mod PeriodicLaws
 pub mod Quotients
 pub mod RowBook
 pub mod Places
+pub mod TableRows
 pub mod WindowLaws
 pub mod Tallies

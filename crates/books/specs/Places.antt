@@ -1,12 +1,11 @@
 -- The rows that a list of values stands for: what is read at a place, and when they are sound.
-use Rattle.std.specs.Prelude.{◌≡◌, ℕ, zero, suc, ◌+◌, ◌<◌, ◌≤◌, false, cond, List, [], ◌∷◌, ◌++◌, map, length, set, is_some, Some, None, vec_items, Option, ◌==◌, nat_lt, slice_index_or, slice_set, refl}
+use Rattle.std.specs.Prelude.{◌≡◌, ℕ, zero, suc, ◌+◌, ◌<◌, ◌≤◌, false, cond, List, [], ◌∷◌, ◌++◌, map, length, set, is_some, Some, None, Option, ◌==◌, nat_lt, slice_index_or, slice_set, refl}
 use Rattle.std.proofs.Common.{sym, ap, subst, ◌∙◌, ⊎_elim, arith}
 use Rattle.std.specs.Option.{option_map}
 use Rattle.std.proofs.lemmas.List.{get_or-map, get_or_past, get_or-set_same, get_or-set_other, length-map, map-set}
 use Rattle.std.proofs.lemmas.Bool.{cases_lt, both_ways, le-ltb, eqb-true, eqb-false, cond_both}
 use Rattle.fields.specs.Limits.{highest}
 use Rattle.fields.specs.declared.limits.Field.TheVariants.{Message}
-use Rattle.books.specs.declared.rows.RowTable.{RowTable}
 use Rattle.books.specs.Rows.{Kind, SoundRows, row_at, rows_for, figure, row_book}
 
 pub row_past : {V X : Type 0} (f : V → X) (vs : List (Option V)) (m : ℕ) → length vs ≤ m → row_at (rows_for f vs) m ≡ None
@@ -61,7 +60,7 @@ module _ {V : Type 0} (k : Kind) (f : V → k.Row) (ok : (v : V) → k.Sound (f 
   sound_of (Some v) x e = let same : f v ≡ x = cc in subst k.Sound same (ok v)
 
   -- messages in range only have rows, since place 0 is spare and the places end at the highest number
-  rows_sound : (vs : List (Option V)) → length vs ≤ highest Message + 1 → is_some (slice_index_or vs 0 None) ≡ false → SoundRows k (rows_for f vs)
+  pub rows_sound : (vs : List (Option V)) → length vs ≤ highest Message + 1 → is_some (slice_index_or vs 0 None) ≡ false → SoundRows k (rows_for f vs)
   rows_sound vs size spare = record {
     in_range = λ m e. (
       ⊎_elim (λ l. l) (λ z. let zero : m ≡ 0 = omega arith in
@@ -70,6 +69,3 @@ module _ {V : Type 0} (k : Kind) (f : V → k.Row) (ok : (v : V) → k.Sound (f 
     );
     row_sound = λ m x e. sound_of (slice_index_or vs m None) x (sym (row_at_place f vs m) ∙ e);
   }
-
-  pub table_sound : (t : RowTable V) → SoundRows k (rows_for f (vec_items t.places))
-  table_sound t = rows_sound (vec_items t.places) (omega arith) t.spare

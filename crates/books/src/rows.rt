@@ -6,7 +6,9 @@ ghost use Rattle.fields.specs.declared.limits.Field.TheVariants.{Message, Time};
 ghost use Rattle.books.specs.Book.{longest};
 ghost use Rattle.books.specs.Listing.{RowListed};
 ghost use Rattle.books.specs.Rows.{Kind, RowLaws, Found, row_at, row_book, rows_for};
-ghost use Rattle.std.proofs.Common.{rules, arith};
+ghost use Rattle.books.specs.Places.{rows_sound};
+ghost use Rattle.books.specs.RowBook.{row_book_lawful};
+ghost use Rattle.std.proofs.Common.{rules};
 
 use crate::book::{LONGEST, ReleaseBook, refused};
 use fields::limits::{Field, admits, limits_of};
@@ -110,9 +112,9 @@ impl<R: MessageRow> ReleaseBook for RowTable<R> {
 
     ghost meaning = { λ t. rows_for R.MessageRow.figures t.places.items };
 
-    ghost lawful = { first_of (Prim.search rules, Prim.grind (arith, Self.row.coded.inj)) };
+    ghost lawful = { row_book_lawful R.MessageRow.kind R.MessageRow.lawful };
 
-    ghost sound = { first_of (Prim.search rules, Prim.grind (arith, Self.row.coded.inj)) };
+    ghost sound = { λ t. rows_sound R.MessageRow.kind R.MessageRow.figures R.MessageRow.sound t.places.items (Prim.search rules) t.spare };
 
     fn release(&mut self, message: u16, time: u64) -> Result<(), Refusal> {
         if !admits(Field::Time, time) {

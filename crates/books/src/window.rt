@@ -6,9 +6,8 @@ ghost use Rattle.books.specs.Listing.{Making};
 ghost use Rattle.books.specs.Rows.{row_book};
 ghost use Rattle.books.specs.Window.{windowed, span_of, first_span, span_rows};
 ghost use Rattle.books.specs.WindowLaws.{windowed_lawful, span_sound};
-ghost use Rattle.std.proofs.Common.{rules, arith};
 ghost use Rattle.books.specs.RowBook.{row_book_lawful};
-ghost use Rattle.books.specs.Places.{table_sound};
+ghost use Rattle.books.specs.TableRows.{table_sound};
 
 use crate::book::ReleaseBook;
 use crate::rows::{MessageRow, RowTable};
@@ -53,7 +52,7 @@ impl MessageRow for WindowRow {
 
     ghost lawful = { windowed_lawful };
 
-    ghost sound = { first_of (Prim.search rules, Prim.grind (arith, Self.row.coded.inj)) };
+    ghost sound = { span_sound };
 
     fn earliest(self) -> u64 {
         self.last.max(self.ends[self.releases as usize - 1])

@@ -5,7 +5,7 @@ use Rattle.books.proofs.rows.RowTable.empty.Goals as goal
 
 pub loop-places-preserved : goal.loop-places-preserved
 loop-places-preserved g c =
-    let pushed = c.in-ok-push.ensures in (
+    let pushed = c.in_ok-push.ensures in (
       omega (arith, pushed.len),
       λ n. rw pushed.items (none_pushed (vec_items c.loop-places.places) c.loop-places.invariant.1 n),
     )

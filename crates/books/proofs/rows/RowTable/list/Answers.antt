@@ -14,7 +14,7 @@ returns g c =
     let row = c.args.row in
     let vs = vec_items c.args.self.now.places in
     let l : m < length vs = omega (arith, c.if-not-admits.ensures.within.0) in
-    let free = none_there f (row_at (rows_for f vs) m) c.row.result c.row.ensures c.if-is-some.ensures in
+    let free = none_there f (row_at (rows_for f vs) m) c.row.result c.row.ensures c.if-is_some.ensures in
     let passes = listing_passes (admitted Message m) (is_some (option_map f row)) (is_some (row_at (rows_for f vs) m))
-    c.if-not-admits.ensures.test (same_there f row ∙ c.if-is-none.ensures) free in
+    c.if-not-admits.ensures.test (same_there f row ∙ c.if-is_none.ensures) free in
     ((passes, tt), row_set f vs m row l)

@@ -13,8 +13,8 @@ returns g c =
     let t = c.args.time in
     let vs = vec_items c.args.self.now.places in
     let rows = rows_for row.figures vs in
-    let found = c.in-ok-row.ensures in
+    let found = c.in_ok-row.ensures in
     let due = row_due row.kind.earliest rows m t _ found.1 (omega arith) in
     let passes = release_passes (admitted Message m) (admitted Time t) (is_some (row_at rows m)) (ltb t (figure row.kind.earliest rows m))
     found.0 c.if-not-admits.ensures.test due in
-    ((passes, tt), row_written row.kind row.figures vs m t c.in-ok-row.row c.released.result found.1 c.released.ensures)
+    ((passes, tt), row_written row.kind row.figures vs m t c.in_ok-row.row c.released.result found.1 c.released.ensures)

@@ -5,15 +5,15 @@ use Rattle.books.specs.WindowLaws.{first_at_once}
 use Rattle.books.proofs.window.WindowBook.new.Goals as goal
 
 pub loop-message-init : goal.loop-message-init
-loop-message-init c = listed_none _ _ _ _ c.in-ok-rows.ensures
+loop-message-init c = listed_none _ _ _ _ c.in_ok-rows.ensures
 
 pub loop-message-preserved : goal.loop-message-preserved
-loop-message-preserved c = listed_more _ _ _ _ _ _ _ _ c.loop-message.invariant c.loop-message-test.true c.row.ensures _ c.in-ok-list.ensures
+loop-message-preserved c = listed_more _ _ _ _ _ _ _ _ c.loop-message.invariant c.loop-message-test.true c.row.ensures _ c.in_ok-list.ensures
 
-pub returns-in-err-list : goal.returns-in-err-list
-returns-in-err-list c =
-    let p = err_from_is_err_and c.from-residual-in-err-list.result c.from-residual-in-err-list.ensures.1 in
-    let wrong = listed_wrong _ _ _ _ _ _ _ _ c.loop-message.invariant c.loop-message-test.true c.row.ensures _ c.in-err-list.ensures in
+pub returns-in_err-list : goal.returns-in_err-list
+returns-in_err-list c =
+    let p = err_from_is_err_and c.from_residual-in_err-list.result c.from_residual-in_err-list.ensures.1 in
+    let wrong = listed_wrong _ _ _ _ _ _ _ _ c.loop-message.invariant c.loop-message-test.true c.row.ensures _ c.in_err-list.ensures in
     rw (p.1, p.2) (record { making = wrong; fresh = tt })
 
 pub returns : goal.returns

@@ -3,13 +3,16 @@ use Rattle.books.specs.Window.{Span}
 use Rattle.books.specs.WindowLaws.{pushed_below, ends_pushed}
 use Rattle.books.proofs.window.WindowRowMessageRow.released.Goals as goal
 
-pub invariant-of-result : goal.invariant-of-result
-invariant-of-result c =
+pub invariant_of-result : goal.invariant_of-result
+invariant_of-result c =
     let x = c.args.self in
     let v = c.args.time + x.window in
     let sixteen : length x.ends ≡ 16 = omega arith in
-    let ends = ends_pushed x.ends c.rotate-right.new.self v sixteen c.rotate-right.ensures.after in
-    ((x.figures.0, x.figures.1, c.requires.0), ((λ k. rw ends (pushed_below 15 v x.ends v (omega arith) (λ j. let n = x.near j in omega arith) k)), tt))
+    let ends = ends_pushed x.ends c.rotate_right.new.self v sixteen c.rotate_right.ensures.after in
+    record {
+      figures = (x.figures.0, x.figures.1, c.requires.0);
+      near = λ k. rw ends (pushed_below 15 v x.ends v (omega arith) (λ j. let n = x.near j in omega arith) k);
+    }
 
 pub returns : goal.returns
 returns c =
@@ -17,4 +20,4 @@ returns c =
     let v = c.args.time + x.window in
     let span : List ℕ → Span = λ ends. record { releases = x.releases; window = x.window; last = c.args.time; ends = ends } in
     let sixteen : length x.ends ≡ 16 = omega arith in
-    ap span (ends_pushed x.ends c.rotate-right.new.self v sixteen c.rotate-right.ensures.after)
+    ap span (ends_pushed x.ends c.rotate_right.new.self v sixteen c.rotate_right.ensures.after)
