@@ -1,10 +1,10 @@
 -- What a message needs never falls as it waits longer, so a climb from below passes over no delay.
-use Rattle.std.proofs.Common.{◌≡◌, ℕ, ◌+◌, ◌-◌, ◌*◌, ◌/◌, ◌<◌, ◌≤◌, Bool, true, false, cond, List, [], ◌∷◌, None, ap, mul-le-mul_right, mul-le-mul_left, div-mul-le_self, arith, rules}
+use Rattle.std.proofs.Common.{◌≡◌, ℕ, ◌+◌, ◌-◌, ◌/◌, ◌<◌, ◌≤◌, Bool, true, false, cond, List, [], ◌∷◌, None, ap, mul-le-mul_right, mul-le-mul_left, div-mul-le_self, arith, rules}
 use Rattle.std.specs.List.{AllByRecursion as All}
 use Rattle.fields.specs.Refusals.{first_of}
 use Rattle.books.specs.Book.{Book, Lawful, question_checks}
 use Rattle.std.proofs.lemmas.Nat.{le-div}
-use Rattle.delay.specs.Delay.{total, room, lower, more_urgent, share_of_lower, share_of_urgent, lower_load, urgent_load, blocked_cycles, needed, Meets, Least, ListedRow, NeverFalls, OneDelay}
+use Rattle.delay.specs.Delay.{total, room, lower, more_urgent, share_of_lower, share_of_urgent, lower_load, urgent_load, blocked_cycles, needed, Meets, ListedRow, NeverFalls, OneDelay}
 use Rattle.delay.specs.declared.bus.Bus.{Bus}
 use Rattle.delay.specs.declared.entry.Entry.{Entry}
 use Rattle.delay.specs.declared.entry.Row.{Row}

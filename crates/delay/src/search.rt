@@ -23,9 +23,9 @@ fn refused(reason: Reason, message: u16) -> Refusal
 
 // How many releases of the message a stretch may hold.
 fn count_of<B: ReleaseBook>(releases: &B, message: u16, len: u32) -> u32
-    requires listed { B.ReleaseBook.book.lists (meaning releases.now) message ≡ true }
+    requires listed { B.ReleaseBook.book.lists (B.ReleaseBook.meaning releases.now) message ≡ true }
     requires short { len ≤ longest }
-    ensures value { result ≡ B.ReleaseBook.book.count (meaning releases.now) message len }
+    ensures value { result ≡ B.ReleaseBook.book.count (B.ReleaseBook.meaning releases.now) message len }
     ensures bound { result ≤ 16 * (len + 4000000) }
 {
     match releases.count(message, len) {
@@ -44,9 +44,9 @@ fn lead(bus: &Bus, message: &Entry) -> u32
 
 // The minislots that one row of a lower frame can take.
 fn lower_share<B: ReleaseBook>(bus: &Bus, row: &Row, message: &Entry, releases: &B, d: u32) -> u64
-    requires listed { ListedRow (B.ReleaseBook.book.lists (meaning releases.now)) row.now }
+    requires listed { ListedRow (B.ReleaseBook.book.lists (B.ReleaseBook.meaning releases.now)) row.now }
     requires short { d ≤ highest field.Deadline }
-    ensures value { result ≡ share_of_lower bus.now (B.ReleaseBook.book.count (meaning releases.now)) message.now d row.now }
+    ensures value { result ≡ share_of_lower bus.now (B.ReleaseBook.book.count (B.ReleaseBook.meaning releases.now)) message.now d row.now }
     ensures bound { result < 4000000000000 }
 {
     if row.entry.frame >= message.frame {
@@ -62,9 +62,9 @@ fn lower_share<B: ReleaseBook>(bus: &Bus, row: &Row, message: &Entry, releases: 
 
 // The sendings of one row, where it is a more urgent message of the same frame.
 fn urgent_share<B: ReleaseBook>(row: &Row, message: &Entry, releases: &B, d: u32) -> u64
-    requires listed { ListedRow (B.ReleaseBook.book.lists (meaning releases.now)) row.now }
+    requires listed { ListedRow (B.ReleaseBook.book.lists (B.ReleaseBook.meaning releases.now)) row.now }
     requires short { d ≤ highest field.Deadline }
-    ensures value { result ≡ share_of_urgent (B.ReleaseBook.book.count (meaning releases.now)) message.now d row.now }
+    ensures value { result ≡ share_of_urgent (B.ReleaseBook.book.count (B.ReleaseBook.meaning releases.now)) message.now d row.now }
     ensures bound { result < 4000000000000 }
 {
     if row.entry.frame != message.frame || row.entry.priority >= message.priority {
@@ -81,10 +81,10 @@ struct Loads {
 }
 
 fn loads_of<B: ReleaseBook>(bus: &Bus, rows: &[Row], message: &Entry, releases: &B, d: u32) -> Loads
-    requires listed { All (ListedRow (B.ReleaseBook.book.lists (meaning releases.now))) rows.now }
+    requires listed { All (ListedRow (B.ReleaseBook.book.lists (B.ReleaseBook.meaning releases.now))) rows.now }
     requires short { d ≤ highest field.Deadline }
-    ensures lower { result.lower ≡ lower_load bus.now (B.ReleaseBook.book.count (meaning releases.now)) rows.now message.now d }
-    ensures urgent { result.urgent ≡ urgent_load (B.ReleaseBook.book.count (meaning releases.now)) rows.now message.now d }
+    ensures lower { result.lower ≡ lower_load bus.now (B.ReleaseBook.book.count (B.ReleaseBook.meaning releases.now)) rows.now message.now d }
+    ensures urgent { result.urgent ≡ urgent_load (B.ReleaseBook.book.count (B.ReleaseBook.meaning releases.now)) rows.now message.now d }
     ensures bound { (result.lower < 2 ^ 106) × (result.urgent < 2 ^ 106) }
 {
     let mut lower: u128 = 0;
@@ -98,10 +98,10 @@ fn loads_of<B: ReleaseBook>(bus: &Bus, rows: &[Row], message: &Entry, releases: 
 
 // One macrotick more than the message needs at most while it waits d.
 fn need_of<B: ReleaseBook>(bus: &Bus, rows: &[Row], message: &Entry, releases: &B, d: u32) -> u128
-    requires own { B.ReleaseBook.book.lists (meaning releases.now) message.now.number ≡ true }
-    requires listed { All (ListedRow (B.ReleaseBook.book.lists (meaning releases.now))) rows.now }
+    requires own { B.ReleaseBook.book.lists (B.ReleaseBook.meaning releases.now) message.now.number ≡ true }
+    requires listed { All (ListedRow (B.ReleaseBook.book.lists (B.ReleaseBook.meaning releases.now))) rows.now }
     requires short { d ≤ highest field.Deadline }
-    ensures value { result ≡ needed bus.now (B.ReleaseBook.book.count (meaning releases.now)) rows.now message.now d }
+    ensures value { result ≡ needed bus.now (B.ReleaseBook.book.count (B.ReleaseBook.meaning releases.now)) rows.now message.now d }
     ensures positive { 2 ≤ result }
 {
     let loads = loads_of(bus, rows, message, releases, d);
@@ -114,7 +114,7 @@ fn need_of<B: ReleaseBook>(bus: &Bus, rows: &[Row], message: &Entry, releases: &
 
 // The first row's message that the book does not list.
 fn unlisted<B: ReleaseBook>(rows: &[Row], releases: &B) -> Option<u16>
-    ensures { MatchOption result (All (ListedRow (B.ReleaseBook.book.lists (meaning releases.now))) rows.now) (λ m. (B.ReleaseBook.book.lists (meaning releases.now) m ≡ false) × (All (ListedRow (B.ReleaseBook.book.lists (meaning releases.now))) rows.now → ⊥)) }
+    ensures { MatchOption result (All (ListedRow (B.ReleaseBook.book.lists (B.ReleaseBook.meaning releases.now))) rows.now) (λ m. (B.ReleaseBook.book.lists (B.ReleaseBook.meaning releases.now) m ≡ false) × (All (ListedRow (B.ReleaseBook.book.lists (B.ReleaseBook.meaning releases.now))) rows.now → ⊥)) }
 {
     for row in rows {
         if !releases.lists(row.entry.number) {
@@ -131,7 +131,7 @@ fn climb<B: ReleaseBook>(
     message: &Entry,
     releases: &B,
 ) -> Result<u32, Refusal>
-    ensures { Searched bus.now B.ReleaseBook.book (meaning releases.now) rows.now message.now result }
+    ensures { Searched bus.now B.ReleaseBook.book (B.ReleaseBook.meaning releases.now) rows.now message.now result }
 {
     if let Some(number) = unlisted(rows, releases) {
         return Err(refused(Reason::NotInBook, number));
@@ -162,16 +162,16 @@ pub fn least_delay<B: ReleaseBook>(
     message: &Entry,
     releases: &B,
 ) -> Result<u32, Refusal>
-    ensures searched { Searched bus.now B.ReleaseBook.book (meaning releases.now) rows.now message.now result }
-    ensures rises { NeverFalls bus.now B.ReleaseBook.book (meaning releases.now) rows.now message.now }
-    ensures unique { OneDelay bus.now (B.ReleaseBook.book.count (meaning releases.now)) rows.now message.now }
+    ensures searched { Searched bus.now B.ReleaseBook.book (B.ReleaseBook.meaning releases.now) rows.now message.now result }
+    ensures rises { NeverFalls bus.now B.ReleaseBook.book (B.ReleaseBook.meaning releases.now) rows.now message.now }
+    ensures unique { OneDelay bus.now (B.ReleaseBook.book.count (B.ReleaseBook.meaning releases.now)) rows.now message.now }
 {
     climb(bus, rows, message, releases)
 }
 
 // How many places a message needs: as many as may be released while one waits its delay.
 pub fn places_needed<B: ReleaseBook>(row: &Row, releases: &B) -> Result<u32, Refusal>
-    ensures { Listed B.ReleaseBook.book (meaning releases.now) row.now.entry.number (B.ReleaseBook.book.count (meaning releases.now) row.now.entry.number row.now.delay) result }
+    ensures { Listed B.ReleaseBook.book (B.ReleaseBook.meaning releases.now) row.now.entry.number (B.ReleaseBook.book.count (B.ReleaseBook.meaning releases.now) row.now.entry.number row.now.delay) result }
 {
     releases.count(row.entry.number, row.delay)
 }

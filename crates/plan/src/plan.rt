@@ -40,8 +40,8 @@ pub struct PlanRefused<B> {
 
 // The plan of a draft, or draft and book again.
 fn planned<B: ReleaseBook>(draft: Draft, heap: Global, book: B) -> Result<Plan<B>, PlanRefused<B>>
-    ensures planned { MatchResult result (λ p. Planned B.ReleaseBook.book meaning draft book p) (λ e. NotPlanned B.ReleaseBook.book meaning draft book e) }
-    ensures listed { IfOk result (λ p. All (Listed B.ReleaseBook.book (meaning book)) (entries_of draft)) }
+    ensures planned { MatchResult result (λ p. Planned B.ReleaseBook.book B.ReleaseBook.meaning draft book p) (λ e. NotPlanned B.ReleaseBook.book B.ReleaseBook.meaning draft book e) }
+    ensures listed { IfOk result (λ p. All (Listed B.ReleaseBook.book (B.ReleaseBook.meaning book)) (entries_of draft)) }
 {
     if let Some(number) = first_unlisted(draft.entries.as_slice(), &book) {
         let refusal = Refusal {
@@ -65,9 +65,9 @@ fn planned<B: ReleaseBook>(draft: Draft, heap: Global, book: B) -> Result<Plan<B
 impl Draft {
     // The plan of this draft over a release book. Refused, draft and book come back as they were.
     pub fn into_plan<B: ReleaseBook>(self, heap: Global, book: B) -> Result<Plan<B>, PlanRefused<B>>
-        ensures planned { MatchResult result (λ p. Planned B.ReleaseBook.book meaning self book p) (λ e. NotPlanned B.ReleaseBook.book meaning self book e) }
-        ensures listed { IfOk result (λ p. All (Listed B.ReleaseBook.book (meaning book)) (entries_of self)) }
-        ensures only { OneSheet self.bus B.ReleaseBook.book (meaning book) (entries_of self) }
+        ensures planned { MatchResult result (λ p. Planned B.ReleaseBook.book B.ReleaseBook.meaning self book p) (λ e. NotPlanned B.ReleaseBook.book B.ReleaseBook.meaning self book e) }
+        ensures listed { IfOk result (λ p. All (Listed B.ReleaseBook.book (B.ReleaseBook.meaning book)) (entries_of self)) }
+        ensures only { OneSheet self.bus B.ReleaseBook.book (B.ReleaseBook.meaning book) (entries_of self) }
     {
         planned(self, heap, book)
     }

@@ -14,7 +14,7 @@ use std::alloc::Global;
 
 // The number of the first message that the book does not list.
 pub(crate) fn first_unlisted<B: ReleaseBook>(entries: &[Entry], releases: &B) -> Option<u16>
-    ensures { MatchOption result (All (Listed B.ReleaseBook.book (meaning releases.now)) entries.now) (λ n. FirstUnlisted B.ReleaseBook.book (meaning releases.now) entries.now n) }
+    ensures { MatchOption result (All (Listed B.ReleaseBook.book (B.ReleaseBook.meaning releases.now)) entries.now) (λ n. FirstUnlisted B.ReleaseBook.book (B.ReleaseBook.meaning releases.now) entries.now n) }
 {
     for e in entries {
         if !releases.lists(e.number) {
@@ -31,7 +31,7 @@ fn row_of<B: ReleaseBook>(
     message: &Entry,
     releases: &B,
 ) -> Result<Row, Refusal>
-    ensures { MatchResult result (λ row. (row.entry ≡ message.now) × RowOf bus.now B.ReleaseBook.book (meaning releases.now) rows.now row) (λ e. Unlisted (B.ReleaseBook.book.lists (meaning releases.now)) rows.now message.now e ⊎ NoneWithin bus.now B.ReleaseBook.book (meaning releases.now) rows.now message.now e) }
+    ensures { MatchResult result (λ row. (row.entry ≡ message.now) × RowOf bus.now B.ReleaseBook.book (B.ReleaseBook.meaning releases.now) rows.now row) (λ e. Unlisted (B.ReleaseBook.book.lists (B.ReleaseBook.meaning releases.now)) rows.now message.now e ⊎ NoneWithin bus.now B.ReleaseBook.book (B.ReleaseBook.meaning releases.now) rows.now message.now e) }
 {
     let delay = least_delay(bus, rows, message, releases)?;
     let Ok(jitter) = releases.jitter(message.number) else {
@@ -52,8 +52,8 @@ pub(crate) fn rows_of<B: ReleaseBook>(
     releases: &B,
 ) -> Result<Vec<Row>, MakingFault>
     requires order { ascends entries.now ≡ true }
-    requires listed { All (Listed B.ReleaseBook.book (meaning releases.now)) entries.now }
-    ensures { MatchResult result (λ rows. Sheet bus.now B.ReleaseBook.book (meaning releases.now) entries.now rows.items) (SheetFault bus.now B.ReleaseBook.book (meaning releases.now) entries.now) }
+    requires listed { All (Listed B.ReleaseBook.book (B.ReleaseBook.meaning releases.now)) entries.now }
+    ensures { MatchResult result (λ rows. Sheet bus.now B.ReleaseBook.book (B.ReleaseBook.meaning releases.now) entries.now rows.items) (SheetFault bus.now B.ReleaseBook.book (B.ReleaseBook.meaning releases.now) entries.now) }
 {
     let mut rows = Vec::with_capacity(heap, entries.len())?;
     for e in entries {

@@ -1,4 +1,4 @@
-use Rattle.std.proofs.Common.{ℕ, ◌+◌, ◌<◌, ◌≤◌, inr, arith, rules}
+use Rattle.std.proofs.Common.{inr, arith, rules}
 use Rattle.delay.proofs.Grows.{climbs_on}
 use Rattle.delay.proofs.search.climb.Goals as goal
 
@@ -6,9 +6,9 @@ pub returns-then-needed-from : goal.returns-then-needed-from
 returns-then-needed-from g c =
     let s = g.B.ReleaseBook.meaning c.args.releases.now in
     let past = climbs_on g.B.ReleaseBook.book g.met.B.ReleaseBook.lawful s (g.met.B.ReleaseBook.sound c.args.releases.now)
-    c.args.bus.now c.args.rows.now c.args.message.now c.in-Ok.ensures.0 c.in-default.ensures
-    c.rounds.waits c.need-of-needed.result c.need-of-needed.ensures.value c.rounds.invariant.2 in
-    inr (search rules, search rules, search rules, search rules, c.in-default.ensures, λ e p m. omega (arith, past e p m, c.in-Ok.ensures.1))
+    c.args.bus.now c.args.rows.now c.args.message.now c.in-Ok.ensures.0 c.in_default.ensures
+    c.rounds.waits c.need_of-needed.result c.need_of-needed.ensures.value c.rounds.invariant.2 in
+    inr (search rules, search rules, search rules, search rules, c.in_default.ensures, λ e p m. omega (arith, past e p m, c.in-Ok.ensures.1))
 
 pub rounds-preserved : goal.rounds-preserved
 rounds-preserved g c =
@@ -16,6 +16,6 @@ rounds-preserved g c =
       omega arith,
       omega arith,
       climbs_on g.B.ReleaseBook.book g.met.B.ReleaseBook.lawful s (g.met.B.ReleaseBook.sound c.args.releases.now)
-          c.args.bus.now c.args.rows.now c.args.message.now c.in-Ok.ensures.0 c.in-default.ensures
-          c.rounds.waits c.need-of-needed.result c.need-of-needed.ensures.value c.rounds.invariant.2,
+          c.args.bus.now c.args.rows.now c.args.message.now c.in-Ok.ensures.0 c.in_default.ensures
+          c.rounds.waits c.need_of-needed.result c.need_of-needed.ensures.value c.rounds.invariant.2,
     )

@@ -9,11 +9,11 @@ loop-row-preserved g c =
     let count = g.B.ReleaseBook.book.count (g.B.ReleaseBook.meaning c.args.releases.now) in (
       omega arith,
       total_step (share_of_lower c.args.bus.now count c.args.message.now c.args.d) rows c.loop-row.row-index c.row-item.result
-          c.loop-row.lower c.from-lower.result c.lower-share.result c.loop-row-test.true c.row-item.is c.loop-row.invariant.1
-          c.from-lower.ensures c.lower-share.ensures.value,
+          c.loop-row.lower c.from-lower.result c.lower_share.result c.loop-row-test.true c.row-item.is c.loop-row.invariant.1
+          c.from-lower.ensures c.lower_share.ensures.value,
       total_step (share_of_urgent count c.args.message.now c.args.d) rows c.loop-row.row-index c.row-item.result
-          c.loop-row.urgent c.from-urgent.result c.urgent-share.result c.loop-row-test.true c.row-item.is c.loop-row.invariant.2
-          c.from-urgent.ensures c.urgent-share.ensures.value,
+          c.loop-row.urgent c.from-urgent.result c.urgent_share.result c.loop-row-test.true c.row-item.is c.loop-row.invariant.2
+          c.from-urgent.ensures c.urgent_share.ensures.value,
       omega arith,
       omega arith,
     )
@@ -29,16 +29,16 @@ returns g c =
       bound = (omega arith, omega arith);
     }
 
-pub lower-share-requires : goal.lower-share-requires
-lower-share-requires g c =
+pub lower_share-requires : goal.lower_share-requires
+lower_share-requires g c =
     let lists = g.B.ReleaseBook.book.lists (g.B.ReleaseBook.meaning c.args.releases.now) in
     record {
       listed = all_read (ListedRow lists) c.args.rows.now c.loop-row.row-index c.row-item.result c.loop-row-test.true c.row-item.is c.requires.listed;
       short = c.requires.short;
     }
 
-pub urgent-share-requires : goal.urgent-share-requires
-urgent-share-requires g c =
+pub urgent_share-requires : goal.urgent_share-requires
+urgent_share-requires g c =
     let lists = g.B.ReleaseBook.book.lists (g.B.ReleaseBook.meaning c.args.releases.now) in
     record {
       listed = all_read (ListedRow lists) c.args.rows.now c.loop-row.row-index c.row-item.result c.loop-row-test.true c.row-item.is c.requires.listed;

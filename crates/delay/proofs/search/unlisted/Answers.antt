@@ -1,5 +1,4 @@
 use Rattle.std.proofs.Common.{◌≡◌, true, false, sym, arith, take_all}
-use Rattle.std.specs.List.{AllByRecursion as All}
 use Rattle.std.proofs.lemmas.Bool.{both_ways}
 use Rattle.delay.specs.Delay.{ListedRow}
 use Rattle.delay.proofs.Sums.{all_step, all_read}
