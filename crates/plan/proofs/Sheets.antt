@@ -1,19 +1,19 @@
 -- A sheet grows row by row: a later row does not count for an earlier one.
-use Rattle.std.proofs.Common.{◌≡◌, ℕ, zero, suc, ◌+◌, ◌-◌, ◌*◌, ◌/◌, ◌<◌, ◌≤◌, Bool, true, false, cond, ◌&&◌, eqb, ltb, ◌⊎◌, List, [], ◌∷◌, ◌++◌, map, length, get_or, take, drop, sym, refl, ap, ◌∙◌, subst, inl, inr, ⊎_elim, le_of_suc-le-suc, not-suc-le-zero, arith}
+use Rattle.std.proofs.Common.{◌≡◌, ℕ, zero, suc, ◌+◌, ◌-◌, ◌*◌, ◌/◌, ◌<◌, Bool, true, false, ◌⊎◌, List, [], ◌∷◌, ◌++◌, map, length, get_or, take, drop, ap, ◌∙◌, inr, ⊎_elim, le_of_suc-le-suc, not-suc-le-zero, arith}
 use Rattle.std.specs.List.{AllByRecursion as All}
 use Rattle.std.proofs.lemmas.List.{map_push, take_more}
-use Rattle.std.proofs.ByRecursion.{All-push, All-get_or, All-take, All-weaker}
-use Rattle.std.proofs.lemmas.Bool.{ltb-true, ltb-false, cond-false}
+use Rattle.std.proofs.ByRecursion.{All-push, All-get_or, All-take}
+use Rattle.std.proofs.lemmas.Bool.{cond-false}
 use Rattle.std.proofs.lemmas.Bool.Decides.{nat_tests}
 use Rattle.fields.specs.declared.refusal.Refusal.{Refusal}
 use Rattle.books.specs.Book.{Book}
 use Rattle.ranked.specs.Ranks.{Ascending}
 use Rattle.delay.specs.Order.{by_frame}
-use Rattle.delay.specs.Delay.{total, room, lower, more_urgent, share_of_lower, share_of_urgent, lower_load, urgent_load, own_load, blocked_cycles, needed, Meets, Least, ListedRow, Unlisted, NoneWithin}
+use Rattle.delay.specs.Delay.{total, room, lower, more_urgent, share_of_lower, share_of_urgent, lower_load, urgent_load, own_load, needed, Least, ListedRow, Unlisted, NoneWithin}
 use Rattle.delay.specs.declared.bus.Bus.{Bus}
 use Rattle.delay.specs.declared.entry.Entry.{Entry}
 use Rattle.delay.specs.declared.entry.Row.{Row}
-use Rattle.plan.specs.Sheets.{RowOf, Sheet, Listed, FirstLate, NoSheet}
+use Rattle.plan.specs.Sheets.{RowOf, Sheet, Listed, NoSheet}
 
 total_push : {X : Type 0} (f : X → ℕ) (xs : List X) (x : X) → total f (xs ++ x ∷ []) ≡ total f xs + f x
 total_push f [] x = omega arith

@@ -1,5 +1,5 @@
 -- What the calls of a draft are checked for, and what the draft holds after them.
-use Rattle.std.specs.Prelude.{◌≡◌, ℕ, ◌+◌, ◌-◌, ◌*◌, Bool, true, false, not, ◌&&◌, List, [], ◌∷◌, replicate, is_some, Some, None, vec_items, Option, ◌==◌, nat_lt, slice_index_or, slice_set}
+use Rattle.std.specs.Prelude.{◌≡◌, ℕ, ◌+◌, ◌-◌, ◌*◌, Bool, not, ◌&&◌, List, [], ◌∷◌, replicate, is_some, Some, None, vec_items, Option, ◌==◌, nat_lt, slice_index_or, slice_set}
 use Rattle.std.specs.Option.{unwrap_or}
 use Rattle.fields.specs.Limits.{admitted, Admitted}
 use Rattle.fields.specs.Refusals.{Check}

@@ -1,5 +1,5 @@
 -- The sheet of a table: the least delay of every message, over all rows.
-use Rattle.std.specs.Prelude.{◌≡◌, ℕ, ◌+◌, ◌<◌, ◌≤◌, true, false, ◌⊎◌, List, [], ◌∷◌, ◌++◌, map}
+use Rattle.std.specs.Prelude.{◌≡◌, ℕ, ◌+◌, ◌<◌, ◌≤◌, true, false, ◌⊎◌, List, ◌∷◌, ◌++◌, map}
 use Rattle.std.specs.List.{AllByRecursion as All}
 use Rattle.fields.specs.declared.refusal.MakingFault.{MakingFault}
 use Rattle.fields.specs.declared.refusal.MakingFault.TheVariants as making

@@ -1,4 +1,4 @@
-use Rattle.std.proofs.Common.{◌≡◌, ◌+◌, true, false, take, drop, sym, refl, arith, take_all}
+use Rattle.std.proofs.Common.{◌+◌, take, drop, sym, refl, arith, take_all}
 use Rattle.delay.proofs.Sums.{all_step}
 use Rattle.plan.specs.Sheets.{Listed}
 use Rattle.plan.proofs.Lists.{split_read}

@@ -1,7 +1,16 @@
-use Rattle.std.proofs.Common.{arith, rules}
+use Rattle.std.proofs.Common.{arith}
 use Rattle.plan.proofs.draft.Draft.entry_of.Goals as goal
 
-pub invariant-of-result : goal.invariant-of-result
-invariant-of-result c =
-    let w = c.all-in-range.ensures.within c.if-not-all-in-range.false in
-    (w.number, (w.frame, (w.node, (w.priority, (w.size, (w.deadline, (c.in-Some.ensures.fits, (omega arith, tt))))))))
+pub invariant_of-result : goal.invariant_of-result
+invariant_of-result c =
+    let w = c.all_in_range.ensures.within c.if-not-all_in_range.false in
+    record {
+      number_in = w.number;
+      frame_in = w.frame;
+      node_in = w.node;
+      priority_in = w.priority;
+      size_in = w.size;
+      deadline_in = w.deadline;
+      latest_in = c.in-Some.ensures.fits;
+      starts = omega arith;
+    }

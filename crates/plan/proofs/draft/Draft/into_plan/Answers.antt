@@ -6,7 +6,8 @@ use Rattle.plan.proofs.draft.Draft.into_plan.Goals as goal
 pub returns : goal.returns
 returns g c =
     let d = c.args.self in record {
-      planned = c.planned.ensures;
+      planned = c.planned.ensures.planned;
+      listed = c.planned.ensures.listed;
       only = one_sheet d.bus g.B.ReleaseBook.book (g.B.ReleaseBook.meaning c.args.book) (vec_items d.entries)
           (ascending_from (vec_items d.entries) d.order);
     }

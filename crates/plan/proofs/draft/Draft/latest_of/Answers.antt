@@ -1,4 +1,4 @@
-use Rattle.std.proofs.Common.{◌≡◌, ◌<◌, true, length, vec_items, sym, subst, arith, rules}
+use Rattle.std.proofs.Common.{◌<◌, length, vec_items, arith, rules}
 use Rattle.std.proofs.lemmas.List.{get_or_read}
 use Rattle.plan.specs.Entries.{is_start_in_range}
 use Rattle.plan.proofs.Lists.{every_get_d, start_fits}

@@ -4,8 +4,8 @@ use Rattle.plan.specs.Entries.{numbered, nodes_clash, priorities_clash, ends_wit
 use Rattle.plan.proofs.Room.{apart_clear, has_room, kept_clear, kept_every, numbers_both, nodes_both, priorities_both, free_number, free_frame, free_priority, ends_within_segment, starts_as_its_node, ascending_from, ascends_from}
 use Rattle.plan.proofs.draft.Draft.message.Goals as goal
 
-pub invariant-of-self : goal.invariant-of-self
-invariant-of-self c =
+pub invariant_of-self : goal.invariant_of-self
+invariant_of-self c =
     let d = c.args.self.now in
     let m = c.args.message in
     let e = c.in-Ok.entry in
@@ -14,31 +14,18 @@ invariant-of-self c =
     let old = vec_items d.entries in
     let new = vec_items c.insert.new.list in
     let put = c.insert.ensures.placed in
-    let order = c.insert.ensures.ascending (ascending_from old d.order) in (
-      d.all_nodes,
-      (
-        d.starts,
-        (
-          omega arith,
-          (
-            apart_clear new ∙ kept_clear (λ x. numbered x.number) numbers_both e old new c.insert.result put (sym (apart_clear old) ∙ d.numbers) (free_number d m e ok is.number),
-            (
-              ascends_from new order,
-              (
-                kept_clear nodes_clash nodes_both e old new c.insert.result put d.one_node (free_frame d m e ok is),
-                (
-                  kept_clear priorities_clash priorities_both e old new c.insert.result put d.one_priority (free_priority d m e ok is),
-                  (
-                    kept_every (ends_within d.bus.minislots) e old new c.insert.result put d.sizes (ends_within_segment d m e ok is),
-                    (kept_every (starts_as_node (vec_items d.nodes)) e old new c.insert.result put d.latest (starts_as_its_node d m e is), tt),
-                  ),
-                ),
-              ),
-            ),
-          ),
-        ),
-      ),
-    )
+    let order = c.insert.ensures.ascending (ascending_from old d.order) in
+    record {
+      all_nodes = d.all_nodes;
+      starts = d.starts;
+      room = omega arith;
+      numbers = apart_clear new ∙ kept_clear (λ x. numbered x.number) numbers_both e old new c.insert.result put (sym (apart_clear old) ∙ d.numbers) (free_number d m e ok is.number);
+      order = ascends_from new order;
+      one_node = kept_clear nodes_clash nodes_both e old new c.insert.result put d.one_node (free_frame d m e ok is);
+      one_priority = kept_clear priorities_clash priorities_both e old new c.insert.result put d.one_priority (free_priority d m e ok is);
+      sizes = kept_every (ends_within d.bus.minislots) e old new c.insert.result put d.sizes (ends_within_segment d m e ok is);
+      latest = kept_every (starts_as_node (vec_items d.nodes)) e old new c.insert.result put d.latest (starts_as_its_node d m e is);
+    }
 
 pub unreachable-requires : goal.unreachable-requires
 unreachable-requires c =
