@@ -1,6 +1,6 @@
 -- Lines that are printed alike are the same line.
 use Rattle.std.proofs.Common.{◌≡◌, ℕ, zero, suc, ◌+◌, ◌<◌, ◌≤◌, Bool, true, false, List, [], ◌∷◌, ◌++◌, map, length, get_or, sym, refl, ap, ◌∙◌, ap₂, le_of_suc-le-suc, not-suc-le-zero, arith}
-use Rattle.std.specs.List.{AllByRecursion as All}
+use Rattle.std.specs.List.{AllByRecursion}
 use Rattle.std.proofs.ByRecursion.{All-get_or, All-weaker}
 use Rattle.std.proofs.lemmas.List.{append-nil}
 use Rattle.std.proofs.lemmas.Bool.Decides.{nat_tests}
@@ -56,14 +56,14 @@ same_line l k e =
 abbrev NoFeed : ℕ → Type 0
 NoFeed b = b ≡ 10 → ⊥
 
-all_more : {X : Type 0} (P : X → Type 0) (xs ys : List X) → All P xs → All P ys → All P (xs ++ ys)
+all_more : {X : Type 0} (P : X → Type 0) (xs ys : List X) → AllByRecursion P xs → AllByRecursion P ys → AllByRecursion P (xs ++ ys)
 all_more P [] ys a b = b
 all_more P (x ∷ xs) ys a b = (a.0, all_more P xs ys a.1 b)
 
 digit_no_feed : (b : ℕ) → is_ascii_digit b ≡ true → NoFeed b
 digit_no_feed b h e = grind (arith, nat_tests)
 
-fields_no_feed : (ns : List ℕ) → All NoFeed (fields ns [])
+fields_no_feed : (ns : List ℕ) → AllByRecursion NoFeed (fields ns [])
 fields_no_feed [] = tt
 fields_no_feed (n ∷ ns) = (
   λ e. omega arith,

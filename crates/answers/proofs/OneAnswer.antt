@@ -3,7 +3,7 @@ use Rattle.std.proofs.Common.{◌≡◌, ℕ, ◌+◌, ◌*◌, ◌≤◌, Bool,
 use mathlib.Core.HLevel.{×_prop, is_prop→PathP}
 use native.Mathlib.Bridge.{le_prop}
 use Rattle.std.specs.declared.alloc.Global.{Global}
-use Rattle.std.specs.List.{flat_map, AllByRecursion as All}
+use Rattle.std.specs.List.{flat_map, AllByRecursion}
 use Rattle.fields.specs.Limits.{Admitted, lowest, highest}
 use Rattle.fields.specs.Refusals.{number_of}
 use Rattle.fields.specs.declared.limits.Field.{Field}
@@ -87,7 +87,7 @@ same_bus (line.Node n a ∷ ls) x y h k = absurd h
 same_bus (line.Periodic m t j ∷ ls) x y h k = absurd h
 same_bus (line.Window m n w ∷ ls) x y h k = absurd h
 
-all_unmap : {X Y : Type 0} (f : X → Y) (P : Y → Type 0) (xs : List X) → All P (map f xs) → All (λ x. P (f x)) xs
+all_unmap : {X Y : Type 0} (f : X → Y) (P : Y → Type 0) (xs : List X) → AllByRecursion P (map f xs) → AllByRecursion (λ x. P (f x)) xs
 all_unmap f P [] all = tt
 all_unmap f P (x ∷ xs) all = (all.0, all_unmap f P xs all.1)
 

@@ -1,6 +1,6 @@
 -- The messages of accepted lines are listed without fault: each is in range, and has a number of its own.
 use Rattle.std.proofs.Common.{◌≡◌, ℕ, zero, suc, ◌+◌, ◌<◌, ◌≤◌, Bool, true, false, cond, not, ◌&&◌, ◌||◌, eqb, leb, List, [], ◌∷◌, ◌++◌, map, length, get_or, take, is_some, Some, None, vec_items, Option, unwrap_or, sym, refl, ap, ◌∙◌, subst, inl, inr, ⊎_elim, append_assoc, le_of_suc-le-suc, not-suc-le-zero, arith}
-use Rattle.std.specs.List.{range_with_len, flat_map, AllByRecursion as All}
+use Rattle.std.specs.List.{range_with_len, flat_map, AllByRecursion}
 use Rattle.std.specs.Option.{option_map}
 use Rattle.std.proofs.lemmas.List.FromFn.{get_or-map-range_with_len, fill_by_all}
 use Rattle.std.proofs.lemmas.List.{take_more, flat_map_more, append-nil, length-map}
@@ -93,7 +93,7 @@ module _ {M : Type 0} (number : M → ℕ) where
     abbrev InRange : M → Type 0
     InRange e = (admitted field.Message (number e) && is_some (begins e)) ≡ true
 
-    pub never_wrong : (es : List M) → All InRange es → ((n : ℕ) → uses number es n ≤ 1) → (r : Refusal) → FirstWrong number begins es r → ⊥
+    pub never_wrong : (es : List M) → AllByRecursion InRange es → ((n : ℕ) → uses number es n ≤ 1) → (r : Refusal) → FirstWrong number begins es r → ⊥
     never_wrong [] all once r w = absurd (not-suc-le-zero w.in_list)
     never_wrong (d ∷ es) all once r w =
         let e = get_or (d ∷ es) w.at d in
@@ -115,7 +115,7 @@ module _ {M : Type 0} (number : M → ℕ) where
         go true e f = refl
         go false e f = f e
 
-    pub used_given : (es : List M) → All InRange es → (n : ℕ) → used number es n ≡ true → is_some (given number begins es n) ≡ true
+    pub used_given : (es : List M) → AllByRecursion InRange es → (n : ℕ) → used number es n ≡ true → is_some (given number begins es n) ≡ true
     used_given [] all n h = h
     used_given (e ∷ es) all n h =
         go (eqb (number e) n) h (and_parts (admitted field.Message (number e)) (is_some (begins e)) all.0).1 (used_given es all.1 n)
@@ -192,7 +192,7 @@ window_range : (m : Message) (n w : ℕ) → fits (line.Window m n w) ≡ true
     → InRange (λ (o : WindowMessage). o.number) first_span (record { number = m.number; releases = n; window = w })
 window_range m n w f = grind (arith, nat_tests)
 
-all_periodic : (done ls : List Line) → AllAccepted done ls → All (InRange (λ (o : PeriodicMessage). o.number) first_nominal) (periodic_of ls)
+all_periodic : (done ls : List Line) → AllAccepted done ls → AllByRecursion (InRange (λ (o : PeriodicMessage). o.number) first_nominal) (periodic_of ls)
 all_periodic done [] all = tt
 all_periodic done (line.Bus g s l q ∷ ls) all = all_periodic (done ++ line.Bus g s l q ∷ []) ls all.1
 all_periodic done (line.Node k a ∷ ls) all = all_periodic (done ++ line.Node k a ∷ []) ls all.1
@@ -200,7 +200,7 @@ all_periodic done (line.Periodic m t j ∷ ls) all =
     (period_range m t j (accepted_fits done (line.Periodic m t j) all.0).0, all_periodic (done ++ line.Periodic m t j ∷ []) ls all.1)
 all_periodic done (line.Window m k w ∷ ls) all = all_periodic (done ++ line.Window m k w ∷ []) ls all.1
 
-all_window : (done ls : List Line) → AllAccepted done ls → All (InRange (λ (o : WindowMessage). o.number) first_span) (window_of ls)
+all_window : (done ls : List Line) → AllAccepted done ls → AllByRecursion (InRange (λ (o : WindowMessage). o.number) first_span) (window_of ls)
 all_window done [] all = tt
 all_window done (line.Bus g s l q ∷ ls) all = all_window (done ++ line.Bus g s l q ∷ []) ls all.1
 all_window done (line.Node k a ∷ ls) all = all_window (done ++ line.Node k a ∷ []) ls all.1
@@ -258,16 +258,16 @@ book_is ls l r left right =
     (length-map (vec_items r.rows.places) (option_map span_of) ∙ sym r.rows.places.ok.0 ∙ r.rows.sized) (λ k h. right k) in
     λ i. (lefts i, rights i)
 
-all_unmap : {X Y : Type 0} (f : X → Y) (P : Y → Type 0) (Q : X → Type 0) → ((x : X) → P (f x) → Q x) → (xs : List X) → All P (map f xs) → All Q xs
+all_unmap : {X Y : Type 0} (f : X → Y) (P : Y → Type 0) (Q : X → Type 0) → ((x : X) → P (f x) → Q x) → (xs : List X) → AllByRecursion P (map f xs) → AllByRecursion Q xs
 all_unmap f P Q h [] all = tt
 all_unmap f P Q h (x ∷ xs) all = (h x all.0, all_unmap f P Q h xs all.1)
 
-all_middle : {X : Type 0} (P : X → Type 0) (front : List X) (x : X) (back : List X) → All P (front ++ x ∷ back) → P x
+all_middle : {X : Type 0} (P : X → Type 0) (front : List X) (x : X) (back : List X) → AllByRecursion P (front ++ x ∷ back) → P x
 all_middle P [] x back all = all.0
 all_middle P (f ∷ fs) x back all = all_middle P fs x back all.1
 
 -- Every message of a table is listed in its book.
-pub listed_all : (ls : List Line) → AllAccepted [] ls → (entries : List Entry) → map entry_told entries ≡ in_order ls → All (Listed table_book (book_of_lines ls)) entries
+pub listed_all : (ls : List Line) → AllAccepted [] ls → (entries : List Entry) → map entry_told entries ≡ in_order ls → AllByRecursion (Listed table_book (book_of_lines ls)) entries
 listed_all ls all entries is =
     all_unmap entry_told (λ t. (t.message.number ≤ 128 → table_book.lists (book_of_lines ls) t.message.number ≡ true)) (Listed table_book (book_of_lines ls))
     (λ e h. h e.number_in.1) entries
@@ -275,7 +275,7 @@ listed_all ls all entries is =
     (told_all (messages_of ls) (λ m t. t))))
   where
     told_all : (ms : List Message) → ((m : Message) → some (λ (o : Message). eqb o.number m.number) ms ≡ true → some (λ (o : Message). eqb o.number m.number) (messages_of ls) ≡ true)
-        → All (λ (t : Told). t.message.number ≤ 128 → table_book.lists (book_of_lines ls) t.message.number ≡ true)
+        → AllByRecursion (λ (t : Told). t.message.number ≤ 128 → table_book.lists (book_of_lines ls) t.message.number ≡ true)
         (map (λ m. record { message = m; latest = unwrap_or (start_of ls m.node) 0 }) ms)
     told_all [] f = tt
     told_all (m ∷ ms) f = (

@@ -1,6 +1,6 @@
 -- Lists that are put in order one element after the other.
 use Rattle.std.proofs.Common.{◌≡◌, Bool, true, false, cond, ◌&&◌, ◌||◌, List, [], ◌∷◌, ◌++◌, map, sym, refl, ap, ◌∙◌}
-use Rattle.std.specs.List.{AllByRecursion as All}
+use Rattle.std.specs.List.{AllByRecursion}
 use Rattle.std.proofs.lemmas.Bool.{cond-true, cond-false}
 use Rattle.ranked.specs.Ranks.{Placed}
 use Rattle.plan.specs.Entries.{some}
@@ -42,16 +42,16 @@ pub some_map : {X Y : Type 0} (p : Y → Bool) (f : X → Y) (xs : List X) → s
 some_map p f [] = refl
 some_map p f (x ∷ xs) = ap (λ b. p (f x) || b) (some_map p f xs)
 
-pub all_put_in : {X : Type 0} (P : X → Type 0) (upto : X → X → Bool) (x : X) (ys : List X) → P x → All P ys → All P (put_in upto x ys)
+pub all_put_in : {X : Type 0} (P : X → Type 0) (upto : X → X → Bool) (x : X) (ys : List X) → P x → AllByRecursion P ys → AllByRecursion P (put_in upto x ys)
 all_put_in P upto x [] p all = (p, tt)
 all_put_in P upto x (y ∷ ys) p all = go (upto y x) (all_put_in P upto x ys p all.1)
   where
-    go : (b : Bool) → All P (put_in upto x ys) → All P (cond b (y ∷ put_in upto x ys) (x ∷ y ∷ ys))
+    go : (b : Bool) → AllByRecursion P (put_in upto x ys) → AllByRecursion P (cond b (y ∷ put_in upto x ys) (x ∷ y ∷ ys))
     go true rest = (all.0, rest)
     go false rest = (p, all)
 
 -- Nor what all elements have in common.
-pub all_put_all : {X : Type 0} (P : X → Type 0) (upto : X → X → Bool) (done xs : List X) → All P done → All P xs → All P (put_all upto done xs)
+pub all_put_all : {X : Type 0} (P : X → Type 0) (upto : X → X → Bool) (done xs : List X) → AllByRecursion P done → AllByRecursion P xs → AllByRecursion P (put_all upto done xs)
 all_put_all P upto done [] d all = d
 all_put_all P upto done (x ∷ xs) d all = all_put_all P upto (put_in upto x done) xs (all_put_in P upto x done all.0 d) all.1
 
@@ -60,7 +60,7 @@ put_all_push upto done [] x = refl
 put_all_push upto done (y ∷ ys) x = put_all_push upto (put_in upto y done) ys x
 
 -- An element is put in where the ranked list places it.
-put_parts : {X : Type 0} (upto : X → X → Bool) (x : X) (front back : List X) → All (λ y. upto y x ≡ true) front
+put_parts : {X : Type 0} (upto : X → X → Bool) (x : X) (front back : List X) → AllByRecursion (λ y. upto y x ≡ true) front
     → ((y : X) (ys : List X) → back ≡ y ∷ ys → upto y x ≡ false) → put_in upto x (front ++ back) ≡ front ++ x ∷ back
 put_parts upto x [] [] behind stops = refl
 put_parts upto x [] (y ∷ ys) behind stops = cond-false (upto y x) (y ∷ put_in upto x ys) (x ∷ y ∷ ys) (stops y ys refl)

@@ -1,6 +1,6 @@
 -- What a message needs never falls as it waits longer, so a climb from below passes over no delay.
 use Rattle.std.proofs.Common.{◌≡◌, ℕ, ◌+◌, ◌-◌, ◌/◌, ◌<◌, ◌≤◌, Bool, true, false, cond, List, [], ◌∷◌, None, ap, mul-le-mul_right, mul-le-mul_left, div-mul-le_self, arith, rules}
-use Rattle.std.specs.List.{AllByRecursion as All}
+use Rattle.std.specs.List.{AllByRecursion}
 use Rattle.fields.specs.Refusals.{first_of}
 use Rattle.books.specs.Book.{Book, Lawful, question_checks}
 use Rattle.std.proofs.lemmas.Nat.{le-div}
@@ -13,7 +13,7 @@ cond_grows : (b : Bool) (x y : ℕ) → x ≤ y → cond b x 0 ≤ cond b y 0
 cond_grows true x y h = h
 cond_grows false x y h = omega arith
 
-total_grows : {X : Type 0} (P : X → Type 0) (f g : X → ℕ) → ((x : X) → P x → f x ≤ g x) → (xs : List X) → All P xs → total f xs ≤ total g xs
+total_grows : {X : Type 0} (P : X → Type 0) (f g : X → ℕ) → ((x : X) → P x → f x ≤ g x) → (xs : List X) → AllByRecursion P xs → total f xs ≤ total g xs
 total_grows P f g h [] all = omega arith
 total_grows P f g h (x ∷ xs) all = omega (arith, h x all.0, total_grows P f g h xs all.1)
 
@@ -22,7 +22,7 @@ div_grows m n k p h = le-div (m / k) n k p (omega (arith, div-mul-le_self m k))
 
 module _ (bus : Bus) (lists : ℕ → Bool) (count : ℕ → ℕ → ℕ)
     (grows : (m len more : ℕ) → lists m ≡ true → len ≤ more → count m len ≤ count m more) (rows : List Row) (i : Entry)
-    (own : lists i.number ≡ true) (listed : All (ListedRow lists) rows) where
+    (own : lists i.number ≡ true) (listed : AllByRecursion (ListedRow lists) rows) where
   lower_grows : (d e : ℕ) → d ≤ e → lower_load bus count rows i d ≤ lower_load bus count rows i e
   unfolding lower_load
   lower_grows d e h =
@@ -55,7 +55,7 @@ module _ (bus : Bus) (lists : ℕ → Bool) (count : ℕ → ℕ → ℕ)
 
 -- The same over the state of a lawful book.
 pub climbs_on : (b : Book) → Lawful b → (s : b.State) → b.Sound s → (bus : Bus) (rows : List Row) (i : Entry)
-    → first_of (question_checks b s i.number) ≡ None → All (ListedRow (b.lists s)) rows → (d n : ℕ) → n ≡ needed bus (b.count s) rows i d
+    → first_of (question_checks b s i.number) ≡ None → AllByRecursion (ListedRow (b.lists s)) rows → (d n : ℕ) → n ≡ needed bus (b.count s) rows i d
     → ((e : ℕ) → 1 ≤ e → Meets bus (b.count s) rows i e → d ≤ e) → (e : ℕ) → 1 ≤ e → Meets bus (b.count s) rows i e → n - 1 ≤ e
 climbs_on b lawful s sound bus rows i asked listed d n is =
     let own : b.lists s i.number ≡ true = search rules in

@@ -1,6 +1,6 @@
 -- Sums over lists.
 use Rattle.std.proofs.Common.{◌≡◌, ℕ, zero, suc, ◌+◌, ◌*◌, ◌/◌, ◌^◌, ◌<◌, ◌≤◌, List, [], ◌∷◌, length, get_or, take, sym, ap, subst, le_of_suc-le-suc, not-suc-le-zero, div-le_self, add-one, arith}
-use Rattle.std.specs.List.{AllByRecursion as All}
+use Rattle.std.specs.List.{AllByRecursion}
 use Rattle.std.proofs.lemmas.Nat.{mul-le}
 use Rattle.std.proofs.ByRecursion.{All-get_or, All-more}
 use Rattle.delay.specs.Delay.{total}
@@ -31,9 +31,9 @@ blocked_bound load k urgent own cycle a b c d =
     mul-le (load / k + urgent + own + 1) cycle (2 ^ 108) 16000 (omega (arith, div-le_self load k)) d
 
 -- What holds of every element holds of one that is read.
-pub all_read : {X : Type 0} (P : X → Type 0) (xs : List X) (i : ℕ) (x : X) → i < length xs → x ≡ get_or xs i x → All P xs → P x
+pub all_read : {X : Type 0} (P : X → Type 0) (xs : List X) (i : ℕ) (x : X) → i < length xs → x ≡ get_or xs i x → AllByRecursion P xs → P x
 all_read P xs i x h e all = subst P (sym e) (All-get_or P xs i x h all)
 
-pub all_step : {X : Type 0} (P : X → Type 0) (xs : List X) (i : ℕ) (x : X) → i < length xs → x ≡ get_or xs i x → All P (take i xs) → P x
-    → All P (take (i + 1) xs)
+pub all_step : {X : Type 0} (P : X → Type 0) (xs : List X) (i : ℕ) (x : X) → i < length xs → x ≡ get_or xs i x → AllByRecursion P (take i xs) → P x
+    → AllByRecursion P (take (i + 1) xs)
 all_step P xs i x h e all p = All-more P xs i x h all (subst P e p)

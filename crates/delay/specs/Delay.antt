@@ -1,7 +1,7 @@
 -- The delay of a message: what can block it while it waits, and the least time that covers all of it.
 use Rattle.std.specs.Prelude.{◌≡◌, ℕ, ◌+◌, ◌-◌, ◌*◌, ◌/◌, ◌<◌, ◌≤◌, Bool, true, false, cond, ◌&&◌, ◌⊎◌, List, [], ◌∷◌, Result, ◌==◌, nat_lt}
 use Rattle.std.specs.Result as results
-use Rattle.std.specs.List.{AllByRecursion as All}
+use Rattle.std.specs.List.{AllByRecursion}
 use Rattle.fields.specs.declared.refusal.Refusal.{Refusal}
 use Rattle.fields.specs.declared.refusal.Reason.TheVariants.{NotInBook, NoDelay}
 use Rattle.fields.specs.declared.refusal.Place.TheVariants.{Plan}
@@ -75,26 +75,26 @@ ListedRow lists j = lists j.entry.number ≡ true
 -- Refused since the book does not list one of the messages.
 abbrev pub Unlisted : (ℕ → Bool) → List Row → Entry → Refusal → Type 0
 Unlisted lists rows i e =
-    (e.reason ≡ NotInBook) × (e.place ≡ Plan) × (lists e.concerns ≡ false) × (lists i.number ≡ true → All (ListedRow lists) rows → ⊥)
+    (e.reason ≡ NotInBook) × (e.place ≡ Plan) × (lists e.concerns ≡ false) × (lists i.number ≡ true → AllByRecursion (ListedRow lists) rows → ⊥)
 
 -- Refused since no delay has a response within the deadline, though the book lists every message.
 abbrev pub NoneWithin : Bus → (b : Book) → b.State → List Row → Entry → Refusal → Type 0
 NoneWithin bus b s rows i e =
-    (e.reason ≡ NoDelay) × (e.place ≡ Plan) × (e.concerns ≡ i.number) × (b.lists s i.number ≡ true) × All (ListedRow (b.lists s)) rows
+    (e.reason ≡ NoDelay) × (e.place ≡ Plan) × (e.concerns ≡ i.number) × (b.lists s i.number ≡ true) × AllByRecursion (ListedRow (b.lists s)) rows
     × ((d : ℕ) → 1 ≤ d → Meets bus (b.count s) rows i d → i.deadline < b.jitter s i.number + d)
 
 -- What the search for a delay answers, over the state of a release book.
 abbrev pub Searched : Bus → (b : Book) → b.State → List Row → Entry → Result ℕ Refusal → Type 0
 Searched bus b s rows i r =
     results.MatchResult r
-    (λ d. (b.lists s i.number ≡ true) × All (ListedRow (b.lists s)) rows × Least bus (b.count s) rows i d
+    (λ d. (b.lists s i.number ≡ true) × AllByRecursion (ListedRow (b.lists s)) rows × Least bus (b.count s) rows i d
     × (b.jitter s i.number + d ≤ i.deadline))
     (λ e. Unlisted (b.lists s) rows i e ⊎ NoneWithin bus b s rows i e)
 
 -- What is needed never falls as the message waits longer, where the book lists every message.
 abbrev pub NeverFalls : Bus → (b : Book) → b.State → List Row → Entry → Type 0
 NeverFalls bus b s rows i =
-    b.lists s i.number ≡ true → All (ListedRow (b.lists s)) rows → (d e : ℕ) → d ≤ e → needed bus (b.count s) rows i d ≤ needed bus (b.count s) rows i e
+    b.lists s i.number ≡ true → AllByRecursion (ListedRow (b.lists s)) rows → (d e : ℕ) → d ≤ e → needed bus (b.count s) rows i d ≤ needed bus (b.count s) rows i e
 
 -- A message has one delay at most.
 abbrev pub OneDelay : Bus → (ℕ → ℕ → ℕ) → List Row → Entry → Type 0

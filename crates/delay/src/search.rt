@@ -1,6 +1,6 @@
 // The search for the least delay of one message.
 ghost use Rattle.std.specs.Prelude.{◌≡◌, ℕ, ◌+◌, ◌-◌, ◌*◌, ◌/◌, ◌^◌, ◌<◌, ◌≤◌, true, false, length, MatchOption};
-ghost use Rattle.std.specs.List.{AllByRecursion as All};
+ghost use Rattle.std.specs.List.{AllByRecursion};
 ghost use Rattle.fields.specs.Limits.{highest, Admitted};
 ghost use Rattle.fields.specs.declared.limits.Field.TheVariants as field;
 ghost use Rattle.books.specs.Book.{longest, Listed};
@@ -81,7 +81,7 @@ struct Loads {
 }
 
 fn loads_of<B: ReleaseBook>(bus: &Bus, rows: &[Row], message: &Entry, releases: &B, d: u32) -> Loads
-    requires listed { All (ListedRow (B.ReleaseBook.book.lists (B.ReleaseBook.meaning releases.now))) rows.now }
+    requires listed { AllByRecursion (ListedRow (B.ReleaseBook.book.lists (B.ReleaseBook.meaning releases.now))) rows.now }
     requires short { d ≤ highest field.Deadline }
     ensures lower { result.lower ≡ lower_load bus.now (B.ReleaseBook.book.count (B.ReleaseBook.meaning releases.now)) rows.now message.now d }
     ensures urgent { result.urgent ≡ urgent_load (B.ReleaseBook.book.count (B.ReleaseBook.meaning releases.now)) rows.now message.now d }
@@ -99,7 +99,7 @@ fn loads_of<B: ReleaseBook>(bus: &Bus, rows: &[Row], message: &Entry, releases: 
 // One macrotick more than the message needs at most while it waits d.
 fn need_of<B: ReleaseBook>(bus: &Bus, rows: &[Row], message: &Entry, releases: &B, d: u32) -> u128
     requires own { B.ReleaseBook.book.lists (B.ReleaseBook.meaning releases.now) message.now.number ≡ true }
-    requires listed { All (ListedRow (B.ReleaseBook.book.lists (B.ReleaseBook.meaning releases.now))) rows.now }
+    requires listed { AllByRecursion (ListedRow (B.ReleaseBook.book.lists (B.ReleaseBook.meaning releases.now))) rows.now }
     requires short { d ≤ highest field.Deadline }
     ensures value { result ≡ needed bus.now (B.ReleaseBook.book.count (B.ReleaseBook.meaning releases.now)) rows.now message.now d }
     ensures positive { 2 ≤ result }
@@ -114,7 +114,7 @@ fn need_of<B: ReleaseBook>(bus: &Bus, rows: &[Row], message: &Entry, releases: &
 
 // The first row's message that the book does not list.
 fn unlisted<B: ReleaseBook>(rows: &[Row], releases: &B) -> Option<u16>
-    ensures { MatchOption result (All (ListedRow (B.ReleaseBook.book.lists (B.ReleaseBook.meaning releases.now))) rows.now) (λ m. (B.ReleaseBook.book.lists (B.ReleaseBook.meaning releases.now) m ≡ false) × (All (ListedRow (B.ReleaseBook.book.lists (B.ReleaseBook.meaning releases.now))) rows.now → ⊥)) }
+    ensures { MatchOption result (AllByRecursion (ListedRow (B.ReleaseBook.book.lists (B.ReleaseBook.meaning releases.now))) rows.now) (λ m. (B.ReleaseBook.book.lists (B.ReleaseBook.meaning releases.now) m ≡ false) × (AllByRecursion (ListedRow (B.ReleaseBook.book.lists (B.ReleaseBook.meaning releases.now))) rows.now → ⊥)) }
 {
     for row in rows {
         if !releases.lists(row.entry.number) {

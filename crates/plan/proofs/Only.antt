@@ -1,6 +1,6 @@
 -- A table has one sheet: each row is determined by those before it.
 use Rattle.std.proofs.Common.{◌≡◌, ℕ, ◌+◌, ◌-◌, ◌*◌, ◌/◌, ◌<◌, ◌≤◌, Bool, true, cond, ◌&&◌, eqb, ltb, List, [], ◌∷◌, ◌++◌, map, sym, refl, ap, ◌∙◌, subst, ap₂, append_assoc, arith}
-use Rattle.std.specs.List.{AllByRecursion as All}
+use Rattle.std.specs.List.{AllByRecursion}
 use Rattle.std.proofs.lemmas.List.{map_push, append-nil}
 use Rattle.std.proofs.ByRecursion.{All-weaker}
 use Rattle.books.specs.Book.{Book}
@@ -46,7 +46,7 @@ needed_same bus count xs ys i e d =
     ap (λ u. (u / room i + total (share_of_urgent count i d) xs + own_load count i d + 1) * bus.cycle + (room i - 1 + i.size) * bus.minislot) low
     ∙ ap (λ h. (total (share_of_lower bus count i d) ys / room i + h + own_load count i d + 1) * bus.cycle + (room i - 1 + i.size) * bus.minislot) high
 
-needed_front : (bus : Bus) (count : ℕ → ℕ → ℕ) (xs ys : List Row) (i : Entry) → All (Uncounted i) ys → (d : ℕ) → needed bus count (xs ++ ys) i d ≡ needed bus count xs i d
+needed_front : (bus : Bus) (count : ℕ → ℕ → ℕ) (xs ys : List Row) (i : Entry) → AllByRecursion (Uncounted i) ys → (d : ℕ) → needed bus count (xs ++ ys) i d ≡ needed bus count xs i d
 needed_front bus count xs [] i off d = ap (λ l. needed bus count l i d) (append-nil xs)
 needed_front bus count xs (y ∷ ys) i off d =
     ap (λ l. needed bus count l i d) (sym (append_assoc xs (y ∷ []) ys))
@@ -61,7 +61,7 @@ least_same bus count xs ys i d same l = record {
 }
 
 -- The rows from a message on do not count for it.
-none_after : (r : Row) (rs : List Row) → Ascending by_frame (map (λ q. q.entry) (r ∷ rs)) → All (Uncounted r.entry) (r ∷ rs)
+none_after : (r : Row) (rs : List Row) → Ascending by_frame (map (λ q. q.entry) (r ∷ rs)) → AllByRecursion (Uncounted r.entry) (r ∷ rs)
 none_after r rs asc = (
   after r.entry r (itself r),
   All-weaker (λ q. by_frame r.entry q.entry ≡ true) (Uncounted r.entry) (λ q o. after r.entry q o) rs
@@ -70,7 +70,7 @@ none_after r rs asc = (
 
 only_from : (bus : Bus) (b : Book) (s : b.State) (done done' todo todo' : List Row) → map view done ≡ map view done'
     → map (λ r. r.entry) todo ≡ map (λ r. r.entry) todo' → Ascending by_frame (map (λ r. r.entry) todo) → Ascending by_frame (map (λ r. r.entry) todo')
-    → All (RowOf bus b s (done ++ todo)) todo → All (RowOf bus b s (done' ++ todo')) todo' → map figures_of todo ≡ map figures_of todo'
+    → AllByRecursion (RowOf bus b s (done ++ todo)) todo → AllByRecursion (RowOf bus b s (done' ++ todo')) todo' → map figures_of todo ≡ map figures_of todo'
 only_from bus b s done done' [] [] v e asc asc' h h' = refl
 only_from bus b s done done' [] (r' ∷ rs') v e asc asc' h h' = let z : ◌≡◌ {A = ℕ} 0 1 = cc in absurd (omega arith)
 only_from bus b s done done' (r ∷ rs) [] v e asc asc' h h' = let z : ◌≡◌ {A = ℕ} 0 1 = cc in absurd (omega arith)
@@ -89,8 +89,8 @@ only_from bus b s done done' (r ∷ rs) (r' ∷ rs') v e asc asc' h h' =
     let views : map view (done ++ r ∷ []) ≡ map view (done' ++ r' ∷ []) =
     map_push view done r ∙ ap (λ l. l ++ view r ∷ []) v ∙ ap (λ x. map view done' ++ x ∷ []) pair ∙ sym (map_push view done' r') in
     let later = only_from bus b s (done ++ r ∷ []) (done' ++ r' ∷ []) rs rs' views rest asc.1 asc'.1
-    (subst (λ (l : List Row). All (RowOf bus b s l) rs) (sym (append_assoc done (r ∷ []) rs)) h.1)
-    (subst (λ (l : List Row). All (RowOf bus b s l) rs') (sym (append_assoc done' (r' ∷ []) rs')) h'.1) in
+    (subst (λ (l : List Row). AllByRecursion (RowOf bus b s l) rs) (sym (append_assoc done (r ∷ []) rs)) h.1)
+    (subst (λ (l : List Row). AllByRecursion (RowOf bus b s l) rs') (sym (append_assoc done' (r' ∷ []) rs')) h'.1) in
     cc
 
 -- Two sheets of one table say the same.
@@ -122,12 +122,12 @@ halves (f ∷ fs) back (r ∷ rs) e =
     let h = halves fs back rs more in
     record { done = r ∷ h.done; todo = h.todo; parts = ap (λ l. r ∷ l) h.parts; first = ap₂ (λ x l. x ∷ l) one h.first; rest = h.rest }
 
-all_both_front : {X : Type 0} (P : X → Type 0) (xs ys : List X) → All P (xs ++ ys) → All P xs × All P ys
+all_both_front : {X : Type 0} (P : X → Type 0) (xs ys : List X) → AllByRecursion P (xs ++ ys) → AllByRecursion P xs × AllByRecursion P ys
 all_both_front P [] ys all = (tt, all)
 all_both_front P (x ∷ xs) ys all = let r = all_both_front P xs ys all.1 in ((all.0, r.0), r.1)
 
 -- What stands in front of an ascending list ascends, and comes before all of the rest.
-ascends_across : {X : Type 0} (upto : X → X → Bool) (xs ys : List X) → Ascending upto (xs ++ ys) → All (λ x. All (λ y. upto x y ≡ true) ys) xs
+ascends_across : {X : Type 0} (upto : X → X → Bool) (xs ys : List X) → Ascending upto (xs ++ ys) → AllByRecursion (λ x. AllByRecursion (λ y. upto x y ≡ true) ys) xs
 ascends_across upto [] ys asc = tt
 ascends_across upto (x ∷ xs) ys asc = ((all_both_front (λ y. upto x y ≡ true) xs ys asc.0).1, ascends_across upto xs ys asc.1)
 
@@ -139,11 +139,11 @@ ascends_back : {X : Type 0} (upto : X → X → Bool) (xs ys : List X) → Ascen
 ascends_back upto [] ys asc = asc
 ascends_back upto (x ∷ xs) ys asc = ascends_back upto xs ys asc.1
 
-all_two : {X : Type 0} (P Q R : X → Type 0) → ((x : X) → P x → Q x → R x) → (xs : List X) → All P xs → All Q xs → All R xs
+all_two : {X : Type 0} (P Q R : X → Type 0) → ((x : X) → P x → Q x → R x) → (xs : List X) → AllByRecursion P xs → AllByRecursion Q xs → AllByRecursion R xs
 all_two P Q R f [] p q = tt
 all_two P Q R f (x ∷ xs) p q = (f x p.0 q.0, all_two P Q R f xs p.1 q.1)
 
-row_front : (bus : Bus) (b : Book) (s : b.State) (done todo : List Row) (q : Row) → All (Uncounted q.entry) todo → RowOf bus b s (done ++ todo) q → RowOf bus b s done q
+row_front : (bus : Bus) (b : Book) (s : b.State) (done todo : List Row) (q : Row) → AllByRecursion (Uncounted q.entry) todo → RowOf bus b s (done ++ todo) q → RowOf bus b s done q
 row_front bus b s done todo q off h = record {
   delay = least_same bus (b.count s) (done ++ todo) done q.entry q.delay (needed_front bus (b.count s) done todo q.entry off) h.delay;
   response = h.response;
@@ -155,7 +155,7 @@ cut : (bus : Bus) (b : Book) (s : b.State) (front back : List Entry) (rows : Lis
 cut bus b s front back rows asc sheet =
     let h = halves front back rows sheet.messages in
     let figures = all_both_front (RowOf bus b s (h.done ++ h.todo)) h.done h.todo (rw h.parts at sheet.figures) in
-    let across : All (λ x. All (λ y. by_frame x y ≡ true) (map (λ r. r.entry) h.todo)) (map (λ r. r.entry) h.done) =
+    let across : AllByRecursion (λ x. AllByRecursion (λ y. by_frame x y ≡ true) (map (λ r. r.entry) h.todo)) (map (λ r. r.entry) h.done) =
     rw (h.first, h.rest) (ascends_across by_frame front back asc) in
     record {
       done = h.done;
@@ -164,11 +164,11 @@ cut bus b s front back rows asc sheet =
       rest = h.rest;
       sheet = record {
         messages = h.first;
-        figures = all_two (λ q. All (λ y. by_frame q.entry y ≡ true) (map (λ r. r.entry) h.todo)) (RowOf bus b s (h.done ++ h.todo)) (RowOf bus b s h.done)
+        figures = all_two (λ q. AllByRecursion (λ y. by_frame q.entry y ≡ true) (map (λ r. r.entry) h.todo)) (RowOf bus b s (h.done ++ h.todo)) (RowOf bus b s h.done)
             (λ q o row. row_front bus b s h.done h.todo q
             (All-weaker (λ r. by_frame q.entry r.entry ≡ true) (Uncounted q.entry) (λ r. after q.entry r) h.todo
             (from_map (λ y. by_frame q.entry y ≡ true) (λ r. r.entry) h.todo o)) row)
-            h.done (from_map (λ x. All (λ y. by_frame x y ≡ true) (map (λ r. r.entry) h.todo)) (λ q. q.entry) h.done across) figures.0;
+            h.done (from_map (λ x. AllByRecursion (λ y. by_frame x y ≡ true) (map (λ r. r.entry) h.todo)) (λ q. q.entry) h.done across) figures.0;
       };
     }
 
@@ -201,7 +201,7 @@ late_excludes bus b s front i back rows others sheet asc whole late = go c.todo 
     c : Cut bus b s front (i ∷ back) others
     c = cut bus b s front (i ∷ back) others asc whole
 
-    go : (todo : List Row) → map (λ r. r.entry) todo ≡ i ∷ back → All (RowOf bus b s (c.done ++ todo)) todo → ⊥
+    go : (todo : List Row) → map (λ r. r.entry) todo ≡ i ∷ back → AllByRecursion (RowOf bus b s (c.done ++ todo)) todo → ⊥
     go [] e all = let z : ◌≡◌ {A = ℕ} 0 1 = cc in omega arith
     go (r ∷ rs) e all =
         let one : r.entry ≡ i = cc in

@@ -1,6 +1,6 @@
 -- Entries with different numbers: there are no more of them than there are numbers, and one more stays apart.
 use Rattle.std.proofs.Common.{◌≡◌, ℕ, zero, suc, ◌+◌, ◌<◌, ◌≤◌, Bool, true, false, cond, not, ◌&&◌, eqb, List, [], ◌∷◌, ◌++◌, length, get_or, set, is_some, Some, None, Ok, Err, vec_items, Option, Result, unwrap_or, sym, refl, ap, ◌∙◌, subst, ap₂, ⊎_elim, arith, MatchResult}
-use Rattle.std.specs.List.{AllByRecursion as All}
+use Rattle.std.specs.List.{AllByRecursion}
 use Rattle.std.proofs.lemmas.Bool.{and_parts, and_from, or_parts, or_from, not-true, not_from_false, eq-eqb, ne_eqb, cases_eq, both_ways, ltb-false, le-leb}
 use Rattle.std.proofs.lemmas.List.{get_or-set_other}
 use Rattle.ranked.specs.Ranks.{Ascending, Placed}
@@ -51,7 +51,7 @@ unfolding up_to spot hits
 up_to_cons zero e es = omega arith
 up_to_cons (suc n) e es = omega (arith, up_to_cons n e es)
 
-length_up_to : (n : ℕ) (es : List Entry) → All (λ e. (1 ≤ e.number) × (e.number ≤ n)) es → length es ≤ up_to n es
+length_up_to : (n : ℕ) (es : List Entry) → AllByRecursion (λ e. (1 ≤ e.number) × (e.number ≤ n)) es → length es ≤ up_to n es
 length_up_to n [] all = omega arith
 length_up_to n (e ∷ es) all = omega (arith, up_to_cons n e es, spot_one n e.number all.0.0 all.0.1, length_up_to n es all.1)
 
@@ -86,7 +86,7 @@ unfolding up_to
 up_to_bound zero es h = omega arith
 up_to_bound (suc n) es h = omega (arith, hits_once (suc n) es h, up_to_bound n es h)
 
-all_in : (es : List Entry) → All (λ e. (1 ≤ e.number) × (e.number ≤ 128)) es
+all_in : (es : List Entry) → AllByRecursion (λ e. (1 ≤ e.number) × (e.number ≤ 128)) es
 all_in [] = tt
 all_in (e ∷ es) = (e.number_in, all_in es)
 
@@ -141,11 +141,11 @@ nodes_both x y = ap₂ ◌&&◌ (eqb_swap y.frame x.frame) (ap not (eqb_swap y.n
 pub priorities_both : (x y : Entry) → priorities_clash x y ≡ priorities_clash y x
 priorities_both x y = ap₂ ◌&&◌ (eqb_swap y.frame x.frame) (eqb_swap y.priority x.priority)
 
-every_all : {X : Type 0} (p : X → Bool) (xs : List X) → every p xs ≡ true → All (λ x. p x ≡ true) xs
+every_all : {X : Type 0} (p : X → Bool) (xs : List X) → every p xs ≡ true → AllByRecursion (λ x. p x ≡ true) xs
 every_all p [] h = tt
 every_all p (x ∷ xs) h = let q = and_parts (p x) (every p xs) h in (q.0, every_all p xs q.1)
 
-all_every : {X : Type 0} (p : X → Bool) (xs : List X) → All (λ x. p x ≡ true) xs → every p xs ≡ true
+all_every : {X : Type 0} (p : X → Bool) (xs : List X) → AllByRecursion (λ x. p x ≡ true) xs → every p xs ≡ true
 all_every p [] h = refl
 all_every p (x ∷ xs) h = and_from (p x) (every p xs) h.0 (all_every p xs h.1)
 

@@ -1,6 +1,6 @@
 -- A sheet grows row by row: a later row does not count for an earlier one.
 use Rattle.std.proofs.Common.{◌≡◌, ℕ, zero, suc, ◌+◌, ◌-◌, ◌*◌, ◌/◌, ◌<◌, Bool, true, false, ◌⊎◌, List, [], ◌∷◌, ◌++◌, map, length, get_or, take, drop, ap, ◌∙◌, inr, ⊎_elim, le_of_suc-le-suc, not-suc-le-zero, arith}
-use Rattle.std.specs.List.{AllByRecursion as All}
+use Rattle.std.specs.List.{AllByRecursion}
 use Rattle.std.proofs.lemmas.List.{map_push, take_more}
 use Rattle.std.proofs.ByRecursion.{All-push, All-get_or, All-take}
 use Rattle.std.proofs.lemmas.Bool.{cond-false}
@@ -56,12 +56,12 @@ after i r h = (grind (arith, nat_tests), grind (arith, nat_tests))
 pub itself : (r : Row) → by_frame r.entry r.entry ≡ true
 itself r = grind (arith, nat_tests)
 
-all_both : {X : Type 0} (P Q R : X → Type 0) → ((x : X) → P x → Q x → R x) → (xs : List X) → All P xs → All Q xs → All R xs
+all_both : {X : Type 0} (P Q R : X → Type 0) → ((x : X) → P x → Q x → R x) → (xs : List X) → AllByRecursion P xs → AllByRecursion Q xs → AllByRecursion R xs
 all_both P Q R f [] p q = tt
 all_both P Q R f (x ∷ xs) p q = (f x p.0 q.0, all_both P Q R f xs p.1 q.1)
 
 pub sheet_push : (bus : Bus) (b : Book) (s : b.State) (front : List Entry) (rows : List Row) (r : Row) → Sheet bus b s front rows
-    → RowOf bus b s rows r → All (λ q. by_frame q.entry r.entry ≡ true) rows → Sheet bus b s (front ++ r.entry ∷ []) (rows ++ r ∷ [])
+    → RowOf bus b s rows r → AllByRecursion (λ q. by_frame q.entry r.entry ≡ true) rows → Sheet bus b s (front ++ r.entry ∷ []) (rows ++ r ∷ [])
 sheet_push bus b s front rows r sheet row order = record {
   messages = map_push (λ q. q.entry) rows r ∙ ap (λ es. es ++ r.entry ∷ []) sheet.messages;
   figures = All-push (RowOf bus b s (rows ++ r ∷ [])) rows r
@@ -71,13 +71,13 @@ sheet_push bus b s front rows r sheet row order = record {
 }
 
 all_before : {X : Type 0} (upto : X → X → Bool) (xs : List X) (i : ℕ) (d : X) → Ascending upto xs → i < length xs
-    → All (λ y. upto y (get_or xs i d) ≡ true) (take i xs)
+    → AllByRecursion (λ y. upto y (get_or xs i d) ≡ true) (take i xs)
 all_before upto [] i d asc h = absurd (not-suc-le-zero h)
 all_before upto (x ∷ xs) zero d asc h = tt
 all_before upto (x ∷ xs) (suc i) d asc h =
     let l = le_of_suc-le-suc h in (All-get_or (λ y. upto x y ≡ true) xs i d l asc.0, all_before upto xs i d asc.1 l)
 
-pub from_map : {X Y : Type 0} (P : Y → Type 0) (f : X → Y) (xs : List X) → All P (map f xs) → All (λ x. P (f x)) xs
+pub from_map : {X Y : Type 0} (P : Y → Type 0) (f : X → Y) (xs : List X) → AllByRecursion P (map f xs) → AllByRecursion (λ x. P (f x)) xs
 from_map P f [] all = tt
 from_map P f (x ∷ xs) all = (all.0, from_map P f xs all.1)
 
@@ -94,12 +94,12 @@ sheet_next bus b s entries rows i e r asc h is sheet same row =
 
 -- The messages of the rows so far are listed, as all of the table are.
 rows_listed : (b : Book) (s : b.State) (entries : List Entry) (rows : List Row) (i : ℕ) → map (λ r. r.entry) rows ≡ take i entries
-    → All (Listed b s) entries → All (ListedRow (b.lists s)) rows
+    → AllByRecursion (Listed b s) entries → AllByRecursion (ListedRow (b.lists s)) rows
 rows_listed b s entries rows i is all = from_map (Listed b s) (λ r. r.entry) rows (rw is (All-take (Listed b s) i entries all))
 
 -- A message that gets no row is the first that has no delay.
 pub no_row : (bus : Bus) (b : Book) (s : b.State) (entries : List Entry) (rows : List Row) (i : ℕ) (x : Entry) (e : Refusal)
-    → All (Listed b s) entries → Listed b s x → entries ≡ take i entries ++ x ∷ drop (i + 1) entries → Sheet bus b s (take i entries) rows
+    → AllByRecursion (Listed b s) entries → Listed b s x → entries ≡ take i entries ++ x ∷ drop (i + 1) entries → Sheet bus b s (take i entries) rows
     → Unlisted (b.lists s) rows x e ⊎ NoneWithin bus b s rows x e → NoSheet bus b s entries e
 no_row bus b s entries rows i x e listed own parts sheet why =
     ⊎_elim

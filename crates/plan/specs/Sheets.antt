@@ -1,6 +1,6 @@
 -- The sheet of a table: the least delay of every message, over all rows.
 use Rattle.std.specs.Prelude.{◌≡◌, ℕ, ◌+◌, ◌<◌, ◌≤◌, true, false, ◌⊎◌, List, ◌∷◌, ◌++◌, map}
-use Rattle.std.specs.List.{AllByRecursion as All}
+use Rattle.std.specs.List.{AllByRecursion}
 use Rattle.fields.specs.declared.refusal.MakingFault.{MakingFault}
 use Rattle.fields.specs.declared.refusal.MakingFault.TheVariants as making
 use Rattle.fields.specs.declared.refusal.Refusal.{Refusal}
@@ -21,7 +21,7 @@ pub record RowOf (bus : Bus) (b : Book) (s : b.State) (rows : List Row) (r : Row
 -- The sheet: a row for each message of the table, in the table's order.
 pub record Sheet (bus : Bus) (b : Book) (s : b.State) (entries : List Entry) (rows : List Row) : Type 0 where
   pub messages : map (λ r. r.entry) rows ≡ entries
-  pub figures : All (RowOf bus b s rows) rows
+  pub figures : AllByRecursion (RowOf bus b s rows) rows
 
 -- The book lists the message.
 abbrev pub Listed : (b : Book) → b.State → Entry → Type 0
@@ -33,14 +33,14 @@ pub record FirstUnlisted (b : Book) (s : b.State) (entries : List Entry) (n : �
   pub entry : Entry
   pub back : List Entry
   pub parts : entries ≡ front ++ entry ∷ back
-  pub before : All (Listed b s) front
+  pub before : AllByRecursion (Listed b s) front
   pub here : b.lists s entry.number ≡ false
   pub concerns : n ≡ entry.number
 
 -- The first message of the table that has no delay within its deadline, though the book lists them all: those before
 -- it have their rows.
 pub record FirstLate (bus : Bus) (b : Book) (s : b.State) (entries : List Entry) (n : ℕ) : Type 0 where
-  pub listed : All (Listed b s) entries
+  pub listed : AllByRecursion (Listed b s) entries
   pub front : List Entry
   pub entry : Entry
   pub back : List Entry

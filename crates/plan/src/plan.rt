@@ -1,7 +1,7 @@
 // A plan: a draft whose every message has a delay within its deadline, with the book that bounds its releases.
 ghost use Rattle.std.specs.Prelude.{◌≡◌, IfOk, MatchResult};
 ghost use Rattle.plan.specs.Drafts.{entries_of};
-ghost use Rattle.std.specs.List.{AllByRecursion as All};
+ghost use Rattle.std.specs.List.{AllByRecursion};
 ghost use Rattle.plan.specs.Sheets.{Listed, OneSheet};
 ghost use Rattle.plan.specs.Plans.{rows_of, Planned, NotPlanned};
 
@@ -41,7 +41,7 @@ pub struct PlanRefused<B> {
 // The plan of a draft, or draft and book again.
 fn planned<B: ReleaseBook>(draft: Draft, heap: Global, book: B) -> Result<Plan<B>, PlanRefused<B>>
     ensures planned { MatchResult result (λ p. Planned B.ReleaseBook.book B.ReleaseBook.meaning draft book p) (λ e. NotPlanned B.ReleaseBook.book B.ReleaseBook.meaning draft book e) }
-    ensures listed { IfOk result (λ p. All (Listed B.ReleaseBook.book (B.ReleaseBook.meaning book)) (entries_of draft)) }
+    ensures listed { IfOk result (λ p. AllByRecursion (Listed B.ReleaseBook.book (B.ReleaseBook.meaning book)) (entries_of draft)) }
 {
     if let Some(number) = first_unlisted(draft.entries.as_slice(), &book) {
         let refusal = Refusal {
@@ -66,7 +66,7 @@ impl Draft {
     // The plan of this draft over a release book. Refused, draft and book come back as they were.
     pub fn into_plan<B: ReleaseBook>(self, heap: Global, book: B) -> Result<Plan<B>, PlanRefused<B>>
         ensures planned { MatchResult result (λ p. Planned B.ReleaseBook.book B.ReleaseBook.meaning self book p) (λ e. NotPlanned B.ReleaseBook.book B.ReleaseBook.meaning self book e) }
-        ensures listed { IfOk result (λ p. All (Listed B.ReleaseBook.book (B.ReleaseBook.meaning book)) (entries_of self)) }
+        ensures listed { IfOk result (λ p. AllByRecursion (Listed B.ReleaseBook.book (B.ReleaseBook.meaning book)) (entries_of self)) }
         ensures only { OneSheet self.bus B.ReleaseBook.book (B.ReleaseBook.meaning book) (entries_of self) }
     {
         planned(self, heap, book)

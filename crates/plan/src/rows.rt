@@ -1,6 +1,6 @@
 // The rows of a plan, one message after the other.
 ghost use Rattle.std.specs.Prelude.{◌≡◌, ℕ, ◌+◌, ◌<◌, ◌≤◌, true, ◌⊎◌, MatchOption, MatchResult};
-ghost use Rattle.std.specs.List.{AllByRecursion as All};
+ghost use Rattle.std.specs.List.{AllByRecursion};
 ghost use Rattle.delay.specs.Delay.{Searched, Unlisted, NoneWithin};
 ghost use Rattle.plan.specs.Entries.{ascends};
 ghost use Rattle.plan.specs.Sheets.{RowOf, Sheet, Listed, FirstUnlisted, SheetFault};
@@ -14,7 +14,7 @@ use std::alloc::Global;
 
 // The number of the first message that the book does not list.
 pub(crate) fn first_unlisted<B: ReleaseBook>(entries: &[Entry], releases: &B) -> Option<u16>
-    ensures { MatchOption result (All (Listed B.ReleaseBook.book (B.ReleaseBook.meaning releases.now)) entries.now) (λ n. FirstUnlisted B.ReleaseBook.book (B.ReleaseBook.meaning releases.now) entries.now n) }
+    ensures { MatchOption result (AllByRecursion (Listed B.ReleaseBook.book (B.ReleaseBook.meaning releases.now)) entries.now) (λ n. FirstUnlisted B.ReleaseBook.book (B.ReleaseBook.meaning releases.now) entries.now n) }
 {
     for e in entries {
         if !releases.lists(e.number) {
@@ -52,7 +52,7 @@ pub(crate) fn rows_of<B: ReleaseBook>(
     releases: &B,
 ) -> Result<Vec<Row>, MakingFault>
     requires order { ascends entries.now ≡ true }
-    requires listed { All (Listed B.ReleaseBook.book (B.ReleaseBook.meaning releases.now)) entries.now }
+    requires listed { AllByRecursion (Listed B.ReleaseBook.book (B.ReleaseBook.meaning releases.now)) entries.now }
     ensures { MatchResult result (λ rows. Sheet bus.now B.ReleaseBook.book (B.ReleaseBook.meaning releases.now) entries.now rows.items) (SheetFault bus.now B.ReleaseBook.book (B.ReleaseBook.meaning releases.now) entries.now) }
 {
     let mut rows = Vec::with_capacity(heap, entries.len())?;

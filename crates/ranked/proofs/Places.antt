@@ -1,17 +1,17 @@
 -- An element put at the first place where a greater rank stands.
 use Rattle.std.proofs.Common.{◌≡◌, ℕ, ◌+◌, ◌<◌, ◌≤◌, Bool, true, false, List, [], ◌∷◌, ◌++◌, length, get_or, take, drop, sym, refl, ap, ◌∙◌, inl, inr, ⊎_elim, add-zero, arith}
-use Rattle.std.specs.List.{AllByRecursion as All, insert}
+use Rattle.std.specs.List.{AllByRecursion, insert}
 use Rattle.std.proofs.lemmas.List.{take-append-drop, length-drop, length-take-le, get_or-take, get_or-drop}
 use Rattle.std.proofs.ByRecursion.{All-from_get_or, All-weaker}
 use Rattle.std.proofs.lemmas.Bool.{cases_Bool, both_ways}
 use Rattle.ranked.specs.Ranks.{Ascending, Placed}
 
-all_put : {X : Type 0} (P : X → Type 0) (x : X) (front back : List X) → P x → All P (front ++ back) → All P (front ++ x ∷ back)
+all_put : {X : Type 0} (P : X → Type 0) (x : X) (front back : List X) → P x → AllByRecursion P (front ++ back) → AllByRecursion P (front ++ x ∷ back)
 all_put P x [] back p all = (p, all)
 all_put P x (f ∷ fs) back p all = (all.0, all_put P x fs back p all.1)
 
-ascending_put : {X : Type 0} (upto : X → X → Bool) (x : X) (front back : List X) → All (λ y. upto y x ≡ true) front
-    → All (λ y. upto x y ≡ true) back → Ascending upto (front ++ back) → Ascending upto (front ++ x ∷ back)
+ascending_put : {X : Type 0} (upto : X → X → Bool) (x : X) (front back : List X) → AllByRecursion (λ y. upto y x ≡ true) front
+    → AllByRecursion (λ y. upto x y ≡ true) back → Ascending upto (front ++ back) → Ascending upto (front ++ x ∷ back)
 ascending_put upto x [] back behind after asc = (after, asc)
 ascending_put upto x (f ∷ fs) back behind after asc =
     (all_put (λ y. upto f y ≡ true) x fs back behind.0 asc.0, ascending_put upto x fs back behind.1 after asc.1)
@@ -22,7 +22,7 @@ ascending_back upto (f ∷ fs) back asc = ascending_back upto fs back asc.1
 
 all_above : {X : Type 0} (upto : X → X → Bool) → ((x y z : X) → upto x y ≡ true → upto y z ≡ true → upto x z ≡ true)
     → (x : X) (back : List X) → ((y : X) (ys : List X) → back ≡ y ∷ ys → upto y x ≡ false) → Ascending upto back
-    → All (λ y. upto y x ≡ false) back
+    → AllByRecursion (λ y. upto y x ≡ false) back
 all_above upto trans x [] stops asc = tt
 all_above upto trans x (y ∷ ys) stops asc =
     let above : upto y x ≡ false = stops y ys refl in (

@@ -1,6 +1,6 @@
 -- A line is printed from one letter and one list of numbers only.
 use Rattle.std.proofs.Common.{◌≡◌, ℕ, zero, suc, ◌+◌, ◌<◌, ◌≤◌, Bool, true, false, leb, ◌⊎◌, List, [], ◌∷◌, ◌++◌, map, length, get_or, drop, sym, refl, ap, ◌∙◌, subst, inl, inr, ⊎_elim, arith}
-use Rattle.std.specs.List.{AllByRecursion as All}
+use Rattle.std.specs.List.{AllByRecursion}
 use Rattle.std.specs.Int.Digits.{digits_of}
 use Rattle.std.proofs.lemmas.Int.Digits.{all_below_base_digits_of, number_digits_of, same_from_digits_of}
 use Rattle.std.proofs.ByRecursion.{All-map, All-weaker}
@@ -16,7 +16,7 @@ byte_digit d h =
     and_from (leb 48 (48 + d)) (leb (48 + d) 57) (le-leb 48 (48 + d) low) (le-leb (48 + d) 57 high)
 
 -- Only digits are printed of a number.
-pub all_digits : (n : ℕ) → All (λ b. is_ascii_digit b ≡ true) (decimal n)
+pub all_digits : (n : ℕ) → AllByRecursion (λ b. is_ascii_digit b ≡ true) (decimal n)
 unfolding decimal
 all_digits zero = (refl, tt)
 all_digits (suc n) =
@@ -24,7 +24,7 @@ all_digits (suc n) =
     (All-weaker (λ d. d < 10) (λ d. is_ascii_digit (48 + d) ≡ true) (λ d h. byte_digit d h) (digits_of 10 (suc n)) (all_below_base_digits_of 10 (suc n) (omega arith)))
 
 -- Where digits end, and what follows, is one only.
-digits_end : (xs ys r s : List ℕ) → All (λ b. is_ascii_digit b ≡ true) xs → All (λ b. is_ascii_digit b ≡ true) ys → Ends r → Ends s → xs ++ r ≡ ys ++ s → (xs ≡ ys) × (r ≡ s)
+digits_end : (xs ys r s : List ℕ) → AllByRecursion (λ b. is_ascii_digit b ≡ true) xs → AllByRecursion (λ b. is_ascii_digit b ≡ true) ys → Ends r → Ends s → xs ++ r ≡ ys ++ s → (xs ≡ ys) × (r ≡ s)
 digits_end [] [] r s dx dy er es e = (refl, e)
 digits_end [] (y ∷ ys) r s dx dy er es e = absurd (both_ways (is_ascii_digit y) (subst Ends e er) dy.0)
 digits_end (x ∷ xs) [] r s dx dy er es e = absurd (both_ways (is_ascii_digit x) (subst Ends (sym e) es) dx.0)

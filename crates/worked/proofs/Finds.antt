@@ -1,6 +1,6 @@
 -- Facts that are found by computing.
 use Rattle.std.proofs.Common.{◌≡◌, ℕ, zero, suc, ◌+◌, ◌<◌, ◌≤◌, Bool, true, false, ◌&&◌, eqb, leb, List, [], ◌∷◌, ◌++◌, Some, None, Option, sym, refl, ap, ◌∙◌, ap₂, ⊎_elim, arith}
-use Rattle.std.specs.List.{range_with_len, AllByRecursion as All}
+use Rattle.std.specs.List.{range_with_len, AllByRecursion}
 use Rattle.std.proofs.lemmas.Bool.{leb-true, eqb-true, and_parts, cases_eq}
 use Rattle.fields.specs.Limits.{lowest, highest, Admitted}
 use Rattle.fields.specs.declared.limits.Field.{Field}
@@ -47,7 +47,7 @@ abbrev pub is_none : {A : Type 0} (o : Option A) → Found (o ≡ None)
 is_none None = found refl
 is_none (Some a) = nothing
 
-abbrev pub all_true : {X : Type 0} (p : X → Bool) (xs : List X) → Found (All (λ x. p x ≡ true) xs)
+abbrev pub all_true : {X : Type 0} (p : X → Bool) (xs : List X) → Found (AllByRecursion (λ x. p x ≡ true) xs)
 all_true p [] = found tt
 all_true p (x ∷ xs) = and_then (when_true (p x) (λ h. h)) (λ h. and_then (all_true p xs) (λ t. found (h, t)))
 

@@ -1,6 +1,6 @@
 -- The worked cases, by their lines and delays: that these lead to the answers is computed.
 use Rattle.std.proofs.Common.{◌≡◌, ℕ, zero, suc, ◌+◌, ◌-◌, Bool, true, false, ◌&&◌, List, [], ◌∷◌, ◌++◌, length, drop, Some, None, Option, sym, refl, ap, ◌∙◌, inl, inr, arith}
-use Rattle.std.specs.List.{AllByRecursion as All}
+use Rattle.std.specs.List.{AllByRecursion}
 use Rattle.std.proofs.lemmas.Bool.{and_parts, both_ways}
 use Rattle.fields.specs.Refusals.{first_of}
 use Rattle.fields.specs.declared.refusal.Reason.{Reason}
@@ -107,7 +107,7 @@ passes [] ks = true
 passes (c ∷ cs) [] = false
 passes (c ∷ cs) (k ∷ ks) = is_found (answer (bytes_of c.table) (bytes_of c.prints) k) && passes cs ks
 
-all_answered : (cs : List SheetCase) (ks : List Course) → passes cs ks ≡ true → All Answered cs
+all_answered : (cs : List SheetCase) (ks : List Course) → passes cs ks ≡ true → AllByRecursion Answered cs
 all_answered [] ks h = tt
 all_answered (c ∷ cs) [] h = absurd (both_ways false refl h)
 all_answered (c ∷ cs) (k ∷ ks) h =

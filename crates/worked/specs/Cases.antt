@@ -1,7 +1,7 @@
 -- Worked cases: a text, and what the rules give for it.
 use Rattle.std.specs.Prelude.{ℕ, List, [], ◌∷◌, ◌++◌, codes}
 use Prim.Native.String.{String}
-use Rattle.std.specs.List.{AllByRecursion as All}
+use Rattle.std.specs.List.{AllByRecursion}
 use Rattle.answers.specs.Answers.{OnlyAnswer}
 
 -- The bytes of lines, each with its line feed.
@@ -53,4 +53,4 @@ Answered c = OnlyAnswer (bytes_of c.table) (bytes_of c.prints)
 
 -- The same of all cases.
 abbrev pub AllAnswered : Type 0
-AllAnswered = All Answered cases_of_sheets
+AllAnswered = AllByRecursion Answered cases_of_sheets
