@@ -1,5 +1,5 @@
 -- The numbers of a line, one after the other.
-use Rattle.std.proofs.Common.{◌≡◌, ℕ, ◌+◌, ◌<◌, ◌≤◌, List, [], ◌∷◌, ◌++◌, map, length, get_or, take, drop, sym, refl, ap, ◌∙◌, inl, append_assoc}
+use Rattle.std.proofs.Common.{◌≡◌, ℕ, ◌+◌, ◌<◌, ◌≤◌, List, [], ◌∷◌, ◌++◌, length, get_or, take, drop, sym, refl, ap, ◌∙◌, inl}
 use Rattle.std.proofs.lemmas.List.{map_push, drop_more, drop_all, take_more, flat_map_more}
 use Rattle.delay.specs.declared.entry.Row.{Row}
 use Rattle.texts.specs.Forms.{decimal, fields, cut, Reads, FormOf, FormSoFar}

@@ -1,19 +1,19 @@
 -- From the form of a line to the line.
-use Rattle.std.proofs.Common.{◌≡◌, ℕ, zero, suc, ◌+◌, ◌<◌, ◌≤◌, min, Bool, true, false, cond, ◌&&◌, eqb, leb, ◌⊎◌, List, [], ◌∷◌, ◌++◌, map, length, get_or, take, drop, Some, None, Option, sym, refl, ap, ◌∙◌, inl, inr, ⊎_elim, add-one, arith, rules}
+use Rattle.std.proofs.Common.{◌≡◌, ℕ, suc, ◌+◌, ◌<◌, ◌≤◌, true, false, ◌&&◌, leb, List, [], ◌∷◌, ◌++◌, length, get_or, take, drop, Some, None, Option, sym, refl, ap, ◌∙◌, inl, ⊎_elim, add-one, arith, rules}
 use Rattle.std.proofs.lemmas.List.{length-map, length-take-le, get_or-map, get_or-take, drop_more, drop_all, append-nil}
-use Rattle.std.proofs.lemmas.Bool.{and_parts, and_from, cases_lt, leb-true, lt-leb, and_right}
+use Rattle.std.proofs.lemmas.Bool.{and_parts, cases_lt, leb-true, lt-leb, and_right}
 use Rattle.std.proofs.lemmas.Bool.Decides.{nat_tests}
 use Rattle.fields.specs.Limits.{lowest, highest, admitted}
 use Rattle.fields.specs.declared.limits.Field.{Field}
 use Rattle.plan.specs.declared.draft.Message.{Message}
-use Rattle.texts.specs.Forms.{Ends, cap, cut, fields, printed, FormOf}
-use Rattle.texts.specs.Lines.{kind_by, next_phase, values_of, kind_of, letter_of, fields_of, all_admitted, firsts, line_text, fits, Figures, OutOf, InTurn}
+use Rattle.texts.specs.Forms.{cap, cut, fields, printed, FormOf}
+use Rattle.texts.specs.Lines.{kind_by, next_phase, values_of, kind_of, letter_of, fields_of, all_admitted, firsts, line_text, fits, Figures, OutOf}
 use Rattle.texts.specs.declared.line.Kind.{Kind}
 use Rattle.texts.specs.declared.line.Kind.TheVariants as kind
 use Rattle.texts.specs.declared.line.Phase.{Phase}
 use Rattle.texts.specs.declared.line.Line.{Line}
 use Rattle.texts.specs.declared.line.Line.TheVariants as line
-use Rattle.texts.proofs.Unique.{Left, fields_same}
+use Rattle.texts.proofs.Unique.{fields_same}
 
 -- The letter and the count of numbers say the kind of a line.
 kind_said : (l : Line) → kind_by (letter_of l) (length (values_of l)) ≡ Some (kind_of l)

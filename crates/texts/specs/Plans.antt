@@ -1,12 +1,11 @@
 -- From a table to its plan.
-use Rattle.std.specs.Prelude.{◌≡◌, ℕ, false, ◌⊎◌, List, vec_items}
+use Rattle.std.specs.Prelude.{◌≡◌, ℕ, ◌⊎◌, List, vec_items}
 use Rattle.fields.specs.declared.refusal.MakingFault.{MakingFault}
 use Rattle.fields.specs.declared.refusal.MakingFault.TheVariants as making
-use Rattle.fields.specs.declared.refusal.Refusal.{Refusal}
 use Rattle.books.specs.Book.{Book}
 use Rattle.books.specs.Rows.{row_at, row_book}
 use Rattle.books.specs.Listing.{given, NotMade}
-use Rattle.books.specs.Joint.{joined, sides, both_list, SharedRefusal}
+use Rattle.books.specs.Joint.{joined, sides, SharedRefusal}
 use Rattle.books.specs.Periodic.{periodic, first_nominal, nominal_rows}
 use Rattle.books.specs.Window.{windowed, first_span, span_rows}
 use Rattle.books.specs.declared.joint.JointBook.{JointBook}
@@ -25,7 +24,6 @@ use Rattle.texts.specs.declared.fault.TableFault.{TableFault}
 use Rattle.texts.specs.declared.fault.TableFault.TheVariants as fault
 use Rattle.texts.specs.declared.fault.RunFault.{RunFault}
 use Rattle.texts.specs.declared.fault.RunFault.TheVariants as run
-use Rattle.texts.specs.declared.table.Origin.{Origin}
 use Rattle.texts.specs.declared.table.Table.{Table}
 
 -- The books of a table: periodic messages on the left, those with windows on the right.

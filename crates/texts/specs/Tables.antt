@@ -1,5 +1,5 @@
 -- A table text and its faults.
-use Rattle.std.specs.Prelude.{◌≡◌, ℕ, ◌+◌, ◌<◌, ◌≤◌, true, ◌⊎◌, List, [], ◌∷◌, ◌++◌, length, Some, None, vec_items, ◌≢◌, slice_index}
+use Rattle.std.specs.Prelude.{◌≡◌, ℕ, ◌+◌, ◌<◌, ◌≤◌, true, ◌⊎◌, List, [], ◌∷◌, ◌++◌, length, Some, vec_items, ◌≢◌, slice_index}
 use Rattle.fields.specs.Refusals.{Check, first_of}
 use Rattle.fields.specs.declared.refusal.Reason.TheVariants.{TextTooLong, WrongFirstLine, Malformed}
 use Rattle.plan.specs.Drafts.{bus_checks, Begun, node_checks, NodeAdded, message_checks, MessageAdded}

@@ -7,13 +7,13 @@ use Rattle.texts.proofs.form.form_of.Goals as goal
 pub loop-at-preserved : goal.loop-at-preserved
 loop-at-preserved c =
     let line = c.args.line.now in
-    let n = c.in-ok-number.ensures in
+    let n = c.in_ok-number.ensures in
     let vs = c.loop-at.values in (
       n.within,
       omega arith,
-      length-set vs c.loop-at.count c.in-ok-number.number.value ∙ c.loop-at.invariant.2,
-      rw (take_more_set vs c.loop-at.count c.in-ok-number.number.value (omega arith))
-          (form_step line (get_or line 0 0) (take c.loop-at.count vs) c.loop-at.at c.in-ok-number.number.end c.in-ok-number.number.value
+      length-set vs c.loop-at.count c.in_ok-number.number.value ∙ c.loop-at.invariant.2,
+      rw (take_more_set vs c.loop-at.count c.in_ok-number.number.value (omega arith))
+          (form_step line (get_or line 0 0) (take c.loop-at.count vs) c.loop-at.at c.in_ok-number.number.end c.in_ok-number.number.value
           c.loop-at.invariant.3 c.loop-at-test.true c.if-line-at-ne32.false n),
     )
 
@@ -39,11 +39,11 @@ returns-then-line-at-ne32 c =
       few = tt;
     }
 
-pub returns-in-err-number : goal.returns-in-err-number
-returns-in-err-number c =
+pub returns-in_err-number : goal.returns-in_err-number
+returns-in_err-number c =
     let line = c.args.line.now in
-    rw c.from-residual.ensures (record {
+    rw c.from_residual.ensures (record {
       form = no_number line (get_or line 0 0) (take c.loop-at.count c.loop-at.values) c.loop-at.at c.loop-at.invariant.3 c.loop-at-test.true
-          c.in-err-number.ensures;
+          c.in_err-number.ensures;
       few = tt;
     })

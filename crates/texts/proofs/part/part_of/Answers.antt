@@ -1,6 +1,6 @@
 use Rattle.std.proofs.Common.{drop, sym, ◌∙◌, arith}
 use Rattle.std.proofs.lemmas.List.{take_rest, length-drop}
-use Rattle.texts.specs.Parts.{Starts, first, next, last}
+use Rattle.texts.specs.Parts.{first, next, last}
 use Rattle.texts.specs.Tables.{OneLine}
 use Rattle.texts.proofs.part.part_of.Goals as goal
 use Rattle.texts.proofs.part.part_of.Goals.{in-Some, in-None}
@@ -13,7 +13,7 @@ loop-number-preserved c =
     let text = c.args.text.now in
     let s = c.loop-number.start in
     let whole = take_rest text s in
-    elim c.match-first-line.branch [
+    elim c.match-first_line.branch [
       | in-Some w ↦
           let cut = w.in-Some.ensures in (
             omega (arith, w.start-is, rw whole at cut.shorter, length-drop s text),

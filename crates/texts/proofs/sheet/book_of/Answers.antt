@@ -1,4 +1,4 @@
-use Rattle.std.proofs.Common.{inl, inr}
+use Rattle.std.proofs.Common.{inr}
 use Rattle.texts.proofs.sheet.book_of.Goals as goal
 
 pub returns-in-Err-new-2 : goal.returns-in-Err-new-2

@@ -1,4 +1,4 @@
-use Rattle.std.proofs.Common.{take, string_bytes, ap, ◌∙◌, arith, take_all}
+use Rattle.std.proofs.Common.{string_bytes, ap, ◌∙◌, arith, take_all}
 use Rattle.texts.specs.Sheets.{text_of_sheet}
 use Rattle.texts.proofs.Fields.{sheet_step}
 use Rattle.texts.proofs.sheet.text_of.Goals as goal
@@ -6,9 +6,9 @@ use Rattle.texts.proofs.sheet.text_of.Goals as goal
 pub loop-row-preserved : goal.loop-row-preserved
 loop-row-preserved c = (
   omega arith,
-  c.in-ok-push-str.ensures.bytes
-      ∙ sheet_step c.args.rows.now c.loop-row.row-index c.row-item.result (string_bytes c.loop-row.text) c.as-str.result.now
-      c.loop-row-test.true c.row-item.is c.loop-row.invariant.1 (c.as-str.ensures.value ∙ c.in-ok-line.ensures),
+  c.in_ok-push_str.ensures.bytes
+      ∙ sheet_step c.args.rows.now c.loop-row.row-index c.row-item.result (string_bytes c.loop-row.text) c.as_str.result.now
+      c.loop-row-test.true c.row-item.is c.loop-row.invariant.1 (c.as_str.ensures.value ∙ c.in_ok-line.ensures),
 )
 
 pub returns : goal.returns
