@@ -1,12 +1,11 @@
 -- Lines that are accepted one after the other.
-use Rattle.std.proofs.Common.{◌≡◌, ℕ, ◌+◌, ◌<◌, ◌≤◌, Bool, true, false, cond, not, ◌&&◌, eqb, ◌⊎◌, List, [], ◌∷◌, ◌++◌, length, is_some, Some, None, Option, sym, refl, ap, ◌∙◌, subst, inl, inr, ⊎_elim, append_assoc, arith}
+use Rattle.std.proofs.Common.{◌≡◌, ℕ, ◌+◌, ◌≤◌, Bool, true, false, cond, not, eqb, List, [], ◌∷◌, ◌++◌, length, is_some, Some, None, Option, sym, refl, ap, ◌∙◌, subst, ⊎_elim, append_assoc, arith}
 use Rattle.std.proofs.lemmas.List.{append-nil, length-append}
-use Rattle.std.proofs.lemmas.Bool.{both_ways}
 use Rattle.fields.specs.Refusals.{Check, first_of}
 use Rattle.fields.specs.declared.refusal.Reason.{Reason}
 use Rattle.fields.specs.declared.refusal.Reason.TheVariants.{Malformed, OutOfRange}
 use Rattle.plan.specs.declared.draft.Message.{Message}
-use Rattle.texts.specs.Lines.{kind_of, next_phase, fits, line_text, InTurn, LineRead, LineRefused, IsMalformedHere, IsOutOfRange}
+use Rattle.texts.specs.Lines.{kind_of, next_phase, fits, line_text, LineRead, LineRefused}
 use Rattle.by_lines.specs.Tables.{mark, lines_text, table_text, messages_of, start_of, phase_of, phase_after, in_turn, table_rules, line_rules, AllAccepted, longest_text, OneLine, NextFault, unformed, refused, FaultOf, at_line}
 use Rattle.by_lines.specs.Held.{RefusedAt, TableFaultOf}
 use Rattle.texts.specs.declared.fault.TableFault.{TableFault}

@@ -1,10 +1,10 @@
 -- The draft of a table's lines, line by line.
-use Rattle.std.proofs.Common.{◌≡◌, ℕ, zero, suc, ◌+◌, ◌-◌, ◌*◌, ◌<◌, ◌≤◌, Bool, true, false, cond, not, ◌&&◌, ◌||◌, eqb, ltb, leb, List, [], ◌∷◌, ◌++◌, map, length, get_or, set, replicate, is_some, Some, None, Ok, Err, vec_items, Option, Result, unwrap_or, sym, refl, ap, ◌∙◌, subst, ⊎_elim, arith, MatchResult}
+use Rattle.std.proofs.Common.{◌≡◌, ℕ, zero, suc, ◌+◌, ◌-◌, ◌*◌, ◌<◌, ◌≤◌, Bool, true, false, cond, not, ◌&&◌, eqb, ltb, leb, List, [], ◌∷◌, ◌++◌, map, length, get_or, set, replicate, is_some, Some, None, Ok, Err, vec_items, Option, Result, unwrap_or, sym, refl, ap, ◌∙◌, ⊎_elim, arith, MatchResult}
 use mathlib.Core.Path.{fun_ext}
 use Rattle.std.proofs.lemmas.List.{map_push, get_or-set_same, get_or-set_other}
 use Rattle.std.proofs.lemmas.Bool.{and_parts, leb-true, cases_eq, eq-eqb, ne_eqb, both_ways}
 use Rattle.fields.specs.Limits.{admitted}
-use Rattle.fields.specs.Refusals.{Check, first_of, Verdict}
+use Rattle.fields.specs.Refusals.{first_of, Verdict}
 use Rattle.fields.specs.declared.refusal.Place.TheVariants as place
 use Rattle.fields.specs.declared.refusal.Refusal.{Refusal}
 use Rattle.fields.specs.declared.limits.Field.TheVariants as field
@@ -14,12 +14,12 @@ use Rattle.delay.specs.Order.{by_frame}
 use Rattle.delay.specs.declared.bus.Bus.{Bus}
 use Rattle.delay.specs.declared.entry.Entry.{Entry}
 use Rattle.plan.specs.Entries.{some, numbered}
-use Rattle.plan.specs.Drafts.{IsBus, Begun, bus_checks, node_checks, NodeAdded, message_checks, MessageAdded, Describes, in_range, latest_start_of, entries_of, of_another_node, as_urgent}
+use Rattle.plan.specs.Drafts.{Begun, bus_checks, node_checks, NodeAdded, message_checks, MessageAdded, Describes, in_range, latest_start_of, entries_of, of_another_node, as_urgent}
 use Rattle.plan.specs.declared.draft.Draft.{Draft}
 use Rattle.plan.specs.declared.draft.Message.{Message}
 use Rattle.texts.specs.Lines.{kind_of, next_phase, fits}
 use Rattle.by_lines.specs.Held.{Told, told_of, told_up_to, put_in, put_all, in_order, entry_told, HasBus, DraftOf, RefusedFor}
-use Rattle.by_lines.specs.Tables.{messages_of, start_of, minislots_of, phase_of, phase_after, in_turn, same_number, other_node, same_priority, message_rules, table_rules}
+use Rattle.by_lines.specs.Tables.{messages_of, start_of, minislots_of, phase_of, in_turn, same_number, other_node, same_priority, message_rules, table_rules}
 use Rattle.texts.specs.declared.line.Line.{Line}
 use Rattle.texts.specs.declared.line.Line.TheVariants as line
 use Rattle.by_lines.proofs.Accepts.{messages_more, start_more, or_else}

@@ -1,20 +1,20 @@
 -- The messages of accepted lines are listed without fault: each is in range, and has a number of its own.
-use Rattle.std.proofs.Common.{◌≡◌, ℕ, zero, suc, ◌+◌, ◌<◌, ◌≤◌, Bool, true, false, cond, not, ◌&&◌, ◌||◌, eqb, leb, List, [], ◌∷◌, ◌++◌, map, length, get_or, take, is_some, Some, None, vec_items, Option, unwrap_or, sym, refl, ap, ◌∙◌, subst, inl, inr, ⊎_elim, append_assoc, le_of_suc-le-suc, not-suc-le-zero, arith}
-use Rattle.std.specs.List.{range_with_len, flat_map, AllByRecursion}
+use Rattle.std.proofs.Common.{◌≡◌, ℕ, zero, suc, ◌+◌, ◌<◌, ◌≤◌, Bool, true, false, cond, not, ◌&&◌, ◌||◌, eqb, List, [], ◌∷◌, ◌++◌, map, length, get_or, take, is_some, Some, None, vec_items, Option, unwrap_or, sym, refl, ap, ◌∙◌, subst, ⊎_elim, append_assoc, le_of_suc-le-suc, not-suc-le-zero, arith}
+use Rattle.std.specs.List.{flat_map, AllByRecursion}
 use Rattle.std.specs.Option.{option_map}
 use Rattle.std.proofs.lemmas.List.FromFn.{get_or-map-range_with_len, fill_by_all}
 use Rattle.std.proofs.lemmas.List.{take_more, flat_map_more, append-nil, length-map}
-use Rattle.std.proofs.ByRecursion.{All-get_or, All-weaker, All-map}
-use Rattle.std.proofs.lemmas.Bool.{and_parts, and_from, or_cases, or_from, or_left, or_right, cases_Bool, eqb-true, eq-eqb, leb-true, both_ways, cond-true, cond-false}
+use Rattle.std.proofs.ByRecursion.{All-get_or}
+use Rattle.std.proofs.lemmas.Bool.{and_parts, or_cases, or_from, or_left, or_right, cases_Bool, eqb-true, eq-eqb, both_ways, cond-true, cond-false}
 use Rattle.std.proofs.lemmas.Bool.Decides.{nat_tests}
 use Rattle.fields.proofs.Checks.{all_passed}
-use Rattle.fields.specs.Limits.{admitted, highest}
-use Rattle.fields.specs.Refusals.{Check, first_of}
+use Rattle.fields.specs.Limits.{admitted}
+use Rattle.fields.specs.Refusals.{first_of}
 use Rattle.fields.specs.declared.limits.Field.TheVariants as field
 use Rattle.fields.specs.declared.refusal.Reason.TheVariants.{OutOfRange, NumberUsed, Malformed}
 use Rattle.fields.specs.declared.refusal.Refusal.{Refusal}
 use Rattle.books.specs.Book.{tally}
-use Rattle.books.specs.Listing.{used, given, listing_checks, wrong_at, FirstWrong}
+use Rattle.books.specs.Listing.{used, given, wrong_at, FirstWrong}
 use Rattle.books.specs.Periodic.{first_nominal, nominal_of, nominal_rows}
 use Rattle.books.specs.Window.{first_span, span_of, span_rows}
 use Rattle.books.specs.Rows.{row_at}
@@ -28,7 +28,7 @@ use Rattle.plan.specs.Sheets.{Listed, FirstUnlisted}
 use Rattle.plan.specs.declared.draft.Message.{Message}
 use Rattle.by_lines.specs.Held.{Told, told_of, told_up_to, entry_told, in_order}
 use Rattle.texts.specs.Lines.{fits}
-use Rattle.by_lines.specs.Plans.{periodic_of_line, window_of_line, periodic_of, window_of, by_number, book_of_lines, table_book}
+use Rattle.by_lines.specs.Plans.{periodic_of, window_of, by_number, book_of_lines, table_book}
 use Rattle.by_lines.specs.Tables.{messages_of, start_of, in_turn, message_rules, table_rules, line_rules, same_number, AllAccepted}
 use Rattle.texts.specs.declared.line.Line.{Line}
 use Rattle.texts.specs.declared.line.Line.TheVariants as line

@@ -9,7 +9,7 @@ use Rattle.by_lines.proofs.sheet.plan_of.Goals as goal
 pub returns-in-Ok : goal.returns-in-Ok
 returns-in-Ok c =
     let t = c.args.table in
-    let is : book_state c.in-ok-book.book ≡ book_of_lines (lines_of t) = c.in-ok-book.ensures ∙ ap book_of_lines c.as-slice.ensures.value in
+    let is : book_state c.in_ok-book.book ≡ book_of_lines (lines_of t) = c.in_ok-book.ensures ∙ ap book_of_lines c.as_slice.ensures.value in
     record {
       bus = t.draft.bus;
       has_bus = c.requires.held.bus;
@@ -21,7 +21,7 @@ returns-in-Ok c =
 pub returns : goal.returns
 returns c =
     let t = c.args.table in
-    let is : book_state c.in-ok-book.book ≡ book_of_lines (lines_of t) = c.in-ok-book.ensures ∙ ap book_of_lines c.as-slice.ensures.value in
+    let is : book_state c.in_ok-book.book ≡ book_of_lines (lines_of t) = c.in_ok-book.ensures ∙ ap book_of_lines c.as_slice.ensures.value in
     let why = rw (c.in-Refused.is, is) at c.in-Err.ensures.planned.why in
     ⊎_elim
     (λ u. absurd (never_unlisted (lines_of t) c.requires.accepted (entries_of t.draft) c.requires.held.entries _ u.1))
@@ -34,7 +34,7 @@ returns c =
         messages = c.requires.held.entries;
         number = c.in-Refused.refusal.concerns;
         late = l.1;
-        at = c.line-of-message.ensures ∙ ap (λ ls. line_of ls c.in-Refused.refusal.concerns) c.as-slice-in-Refused.ensures.value;
+        at = c.line_of_message.ensures ∙ ap (λ ls. line_of ls c.in-Refused.refusal.concerns) c.as_slice-in-Refused.ensures.value;
       },
     ))
     why.1

@@ -1,5 +1,4 @@
 use Rattle.std.proofs.Common.{◌≡◌, [], ◌∷◌, vec_items, sym, refl, ap, ◌∙◌}
-use Rattle.by_lines.specs.Held.{DraftOf}
 use Rattle.by_lines.proofs.Drafted.{bus_same, bus_held}
 use Rattle.by_lines.proofs.table.begun.Goals as goal
 
@@ -7,7 +6,7 @@ pub returns-in-Ok : goal.returns-in-Ok
 returns-in-Ok c =
     let is = c.in-Bus.is in
     let made = c.in-Ok.ensures in
-    let items : vec_items c.in-ok-lines.lines ≡ c.args.line ∷ [] = c.in-ok-lines.ensures.items ∙ ap (λ l. l ∷ []) (sym is) in
+    let items : vec_items c.in_ok-lines.lines ≡ c.args.line ∷ [] = c.in_ok-lines.ensures.items ∙ ap (λ l. l ∷ []) (sym is) in
     let same = bus_same c.in-Bus.cycle c.in-Bus.offset c.in-Bus.minislot c.in-Bus.minislots (rw is at c.requires.ranges) in (
       rw is (sym same ∙ made.0),
       items,
@@ -19,4 +18,4 @@ returns-in-Refused c =
     let is = c.in-Bus.is in
     let same = bus_same c.in-Bus.cycle c.in-Bus.offset c.in-Bus.minislot c.in-Bus.minislots (rw is at c.requires.ranges) in
     let why = rw c.in-Refused.is at c.in-Err.ensures in
-    rw (c.at-line.ensures, is) (refl, sym same ∙ why.0)
+    rw (c.at_line.ensures, is) (refl, sym same ∙ why.0)

@@ -1,6 +1,5 @@
 use Rattle.std.proofs.Common.{refl}
 use Rattle.by_lines.specs.Held.{lines_of}
-use Rattle.texts.specs.declared.line.Line.TheVariants as line
 use Rattle.by_lines.proofs.Drafted.{noted_node, noted_message, gives_periodic, gives_window, in_range_periodic, in_range_window}
 use Rattle.by_lines.proofs.table.Table.note.Goals as goal
 
