@@ -1,10 +1,9 @@
 -- Lines that are printed alike are the same line.
-use Rattle.std.proofs.Common.{◌≡◌, ℕ, zero, suc, ◌+◌, ◌<◌, ◌≤◌, Bool, true, false, List, [], ◌∷◌, ◌++◌, map, length, get_or, sym, refl, ap, ◌∙◌, ap₂, le_of_suc-le-suc, not-suc-le-zero, arith}
+use Rattle.std.proofs.Common.{◌≡◌, ℕ, suc, ◌<◌, true, List, [], ◌∷◌, ◌++◌, map, get_or, refl, ap₂, arith}
 use Rattle.std.specs.List.{AllByRecursion}
 use Rattle.std.proofs.ByRecursion.{All-get_or, All-weaker}
-use Rattle.std.proofs.lemmas.List.{append-nil}
 use Rattle.std.proofs.lemmas.Bool.Decides.{nat_tests}
-use Rattle.texts.specs.Forms.{is_ascii_digit, decimal, fields, printed, cut, FormOf}
+use Rattle.texts.specs.Forms.{is_ascii_digit, decimal, fields, cut}
 use Rattle.texts.specs.Lines.{letter_of, values_of, line_text}
 use Rattle.by_lines.specs.Tables.{lines_text, table_text, OneLine}
 use Rattle.texts.specs.declared.line.Line.{Line}

@@ -1,14 +1,13 @@
 -- A text has one answer only.
-use Rattle.std.proofs.Common.{◌≡◌, ℕ, ◌+◌, ◌*◌, ◌≤◌, Bool, true, false, ◌⊎◌, List, [], ◌∷◌, ◌++◌, map, IfOk, Ok, Err, string_bytes, Result, String, sym, refl, ap, ◌∙◌, subst, ap₂, inl, inr, ⊎_elim, arith}
+use Rattle.std.proofs.Common.{◌≡◌, ℕ, ◌+◌, ◌*◌, ◌≤◌, true, List, [], ◌∷◌, ◌++◌, map, IfOk, Ok, Err, string_bytes, Result, String, sym, refl, ap, ◌∙◌, subst, ap₂, inl, inr, arith}
 use mathlib.Core.HLevel.{×_prop, is_prop→PathP}
 use native.Mathlib.Bridge.{le_prop}
 use Rattle.std.specs.declared.alloc.Global.{Global}
 use Rattle.std.specs.List.{flat_map, AllByRecursion}
-use Rattle.fields.specs.Limits.{Admitted, lowest, highest}
+use Rattle.fields.specs.Limits.{Admitted}
 use Rattle.fields.specs.Refusals.{number_of}
 use Rattle.fields.specs.declared.limits.Field.{Field}
 use Rattle.fields.specs.declared.limits.Field.TheVariants as field
-use Rattle.fields.specs.declared.refusal.Reason.{Reason}
 use Rattle.ranked.specs.Ranks.{Ascending}
 use Rattle.delay.specs.Order.{by_frame}
 use Rattle.delay.specs.declared.bus.Bus.{Bus}
@@ -18,8 +17,8 @@ use Rattle.plan.specs.Drafts.{IsBus}
 use Rattle.plan.specs.Sheets.{Sheet, FirstLate, figures_of}
 use Rattle.plan.proofs.Only.{one_sheet, one_late, late_excludes}
 use Rattle.texts.specs.Forms.{decimal, fields}
-use Rattle.by_lines.specs.Held.{Told, told_up_to, entry_told, in_order, HasBus}
-use Rattle.by_lines.specs.Plans.{table_book, book_of_lines, SheetOf, LateAt, SheetPrinted, TextLate, NoSheetOf, Printed}
+use Rattle.by_lines.specs.Held.{told_up_to, entry_told, in_order, HasBus}
+use Rattle.by_lines.specs.Plans.{table_book, book_of_lines, SheetOf, LateAt, SheetPrinted, NoSheetOf, Printed}
 use Rattle.by_lines.specs.Sheets.{line_of}
 use Rattle.texts.specs.Sheets.{sheet_mark, text_of_row, text_of_sheet, text_of_fault}
 use Rattle.texts.specs.declared.fault.LineFault.{LineFault}

@@ -1,11 +1,10 @@
 -- A text is read in one way only: it is one table, or has one first fault.
-use Rattle.std.proofs.Common.{◌≡◌, ℕ, zero, suc, ◌+◌, ◌<◌, ◌≤◌, Bool, true, false, ◌⊎◌, List, [], ◌∷◌, ◌++◌, length, get_or, Some, None, Option, sym, refl, ap, ◌∙◌, subst, ap₂, inl, inr, ⊎_elim, append_assoc, arith}
-use Rattle.std.proofs.lemmas.List.{append-nil, length-append, get_or-append_right}
+use Rattle.std.proofs.Common.{◌≡◌, ℕ, ◌+◌, ◌<◌, List, [], ◌∷◌, ◌++◌, length, get_or, Some, None, Option, sym, refl, ap, ◌∙◌, subst, ap₂, ⊎_elim, append_assoc, arith}
+use Rattle.std.proofs.lemmas.List.{append-nil, length-append}
 use Rattle.fields.specs.Refusals.{first_of}
 use Rattle.fields.specs.declared.refusal.Reason.{Reason}
-use Rattle.fields.specs.declared.refusal.Reason.TheVariants.{Malformed}
 use Rattle.texts.specs.Lines.{line_text}
-use Rattle.by_lines.specs.Tables.{mark, lines_text, table_text, line_rules, AllAccepted, TableOf, OneLine, NextFault, unended, unformed, refused, FaultOf, too_long, unmarked, at_line}
+use Rattle.by_lines.specs.Tables.{mark, lines_text, line_rules, AllAccepted, TableOf, OneLine, NextFault, unended, unformed, refused, FaultOf, too_long, unmarked, at_line}
 use Rattle.texts.specs.declared.line.Line.{Line}
 use Rattle.by_lines.proofs.Accepts.{rules_turn}
 use Rattle.answers.proofs.Distinct.{same_line, line_no_feed, first_same, same_lines}

@@ -1,15 +1,12 @@
 -- Messages put in one after the other ascend, and none is lost.
-use Rattle.std.proofs.Common.{◌≡◌, ℕ, ◌+◌, Bool, true, false, cond, List, [], ◌∷◌, map, refl, ap, ◌∙◌, ⊎_elim, arith}
-use Rattle.std.specs.List.{AllByRecursion}
+use Rattle.std.proofs.Common.{◌≡◌, ◌+◌, Bool, true, false, cond, List, [], ◌∷◌, refl, arith}
 use Rattle.std.proofs.ByRecursion.{All-weaker}
-use Rattle.std.proofs.lemmas.Bool.{cases_Bool}
 use Rattle.std.proofs.lemmas.Bool.Decides.{nat_tests}
 use Rattle.ranked.specs.Ranks.{Ascending}
 use Rattle.books.specs.Book.{tally}
-use Rattle.by_lines.specs.Held.{Told, told_of, told_up_to, put_in, put_all, in_order}
-use Rattle.texts.specs.declared.line.Line.{Line}
+use Rattle.by_lines.specs.Held.{Told, told_of, told_up_to, put_in, put_all}
 use Rattle.by_lines.proofs.Orders.{all_put_in}
-use Rattle.answers.specs.Answers.{InOrderOf, Ordered}
+use Rattle.answers.specs.Answers.{Ordered}
 
 told_total : (x y : Told) → told_up_to x y ≡ false → told_up_to y x ≡ true
 told_total x y h = grind (arith, nat_tests)

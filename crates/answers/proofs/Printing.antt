@@ -3,7 +3,7 @@ use Rattle.std.proofs.Common.{◌≡◌, ℕ, ◌+◌, ◌<◌, List, [], ◌∷
 use Rattle.std.proofs.lemmas.List.{take_more, append-nil}
 use Rattle.texts.specs.Forms.{decimal, fields}
 use Rattle.texts.specs.Lines.{letter_of, values_of, line_text}
-use Rattle.by_lines.specs.Tables.{mark, lines_text, table_text}
+use Rattle.by_lines.specs.Tables.{table_text}
 use Rattle.texts.specs.declared.line.Line.{Line}
 use Rattle.by_lines.proofs.Accepts.{text_push}
 

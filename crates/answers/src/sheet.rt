@@ -9,5 +9,5 @@ pub fn answer(heap: Global, text: &[u8]) -> Result<String, AllocError>
     ensures only { IfOk result (λ s. OnlyAnswer text.now (string_bytes s)) }
     ensures order { Ordered }
 {
-    texts::sheet::sheet(heap, text)
+    by_lines::sheet::sheet(heap, text)
 }

@@ -1,22 +1,22 @@
-use Rattle.std.proofs.Common.{◌≡◌, [], ◌∷◌, ◌++◌, string_bytes, sym, ap, ◌∙◌, append_assoc, arith, take_all}
+use Rattle.std.proofs.Common.{[], ◌∷◌, ◌++◌, string_bytes, sym, ap, ◌∙◌, arith, take_all}
 use Rattle.std.proofs.lemmas.List.{append-nil}
 use Rattle.texts.specs.Forms.{fields}
 use Rattle.answers.proofs.Printing.{fields_step, fields_end}
 use Rattle.answers.proofs.print.printed_line.Goals as goal
 
 pub loop-value-init : goal.loop-value-init
-loop-value-init c = (omega arith, c.in-ok-text.ensures.ok ∙ sym (append-nil c.args.letter.now))
+loop-value-init c = (omega arith, c.in_ok-text.ensures.ok ∙ sym (append-nil c.args.letter.now))
 
 pub loop-value-preserved : goal.loop-value-preserved
 loop-value-preserved c = (
   omega arith,
-  c.in-ok-push-str.ensures.bytes
-      ∙ fields_step c.args.letter.now c.args.values.now c.loop-value.value-index (string_bytes c.loop-value.text) c.as-str.result.now
-      c.loop-value-test.true c.loop-value.invariant.1 (c.as-str.ensures.value ∙ c.in-ok-field.ensures),
+  c.in_ok-push_str.ensures.bytes
+      ∙ fields_step c.args.letter.now c.args.values.now c.loop-value.value-index (string_bytes c.loop-value.text) c.as_str.result.now
+      c.loop-value-test.true c.loop-value.invariant.1 (c.as_str.ensures.value ∙ c.in_ok-field.ensures),
 )
 
 pub returns : goal.returns
 returns c =
-    c.in-ok-push-str-2.ensures.bytes
+    c.in_ok-push_str-2.ensures.bytes
     ∙ ap (λ t. t ++ 10 ∷ []) (c.loop-value.invariant.1 ∙ ap (λ ns. c.args.letter.now ++ fields ns []) (take_all c.loop-value.value-index c.args.values.now c.loop-value-test.false))
     ∙ fields_end c.args.letter.now c.args.values.now
