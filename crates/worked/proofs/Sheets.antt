@@ -1,13 +1,10 @@
 -- The answer to a text, found by computing: from its lines and the delays of its sheet, or the line at which it is refused.
-use Rattle.std.proofs.Common.{◌≡◌, ℕ, zero, suc, ◌+◌, ◌-◌, ◌*◌, ◌<◌, ◌≤◌, Bool, true, false, cond, ltb, leb, List, [], ◌∷◌, ◌++◌, map, length, Some, None, Option, sym, refl, ap, ◌∙◌, subst, ap₂, inl, inr, ⊎_elim, append_assoc, arith}
-use Rattle.std.specs.List.{range_with_len, AllByRecursion}
+use Rattle.std.proofs.Common.{◌≡◌, ℕ, ◌+◌, ◌-◌, ◌*◌, ◌<◌, ◌≤◌, Bool, true, ltb, List, [], ◌∷◌, ◌++◌, map, length, sym, refl, ap, ◌∙◌, subst, ap₂, ⊎_elim, append_assoc, arith}
+use Rattle.std.specs.List.{range_with_len}
 use Rattle.std.proofs.lemmas.List.{append-nil}
 use Rattle.std.proofs.lemmas.Bool.{ltb-true, cases_lt}
-use Rattle.fields.specs.Limits.{Admitted}
 use Rattle.fields.specs.Refusals.{first_of}
 use Rattle.fields.specs.declared.limits.Field.TheVariants as field
-use Rattle.fields.specs.declared.refusal.Reason.{Reason}
-use Rattle.fields.specs.declared.refusal.Reason.TheVariants.{NoDelay}
 use Rattle.books.specs.Book.{Book}
 use Rattle.delay.specs.Delay.{needed, Meets, Least}
 use Rattle.delay.specs.Order.{by_frame}
@@ -15,14 +12,10 @@ use Rattle.delay.specs.declared.bus.Bus.{Bus}
 use Rattle.delay.specs.declared.entry.Entry.{Entry}
 use Rattle.delay.specs.declared.entry.Row.{Row}
 use Rattle.plan.specs.Entries.{every}
-use Rattle.plan.specs.Sheets.{RowOf, Sheet, Listed, FirstLate}
+use Rattle.plan.specs.Sheets.{RowOf, Sheet}
 use Rattle.plan.proofs.Sheets.{sheet_push}
-use Rattle.by_lines.specs.Held.{Told, entry_told, in_order, HasBus}
-use Rattle.texts.specs.Lines.{line_text}
-use Rattle.by_lines.specs.Plans.{table_book, book_of_lines, SheetOf, LateAt, Printed}
-use Rattle.by_lines.specs.Sheets.{line_of}
-use Rattle.texts.specs.Sheets.{text_of_sheet, text_of_fault}
-use Rattle.by_lines.specs.Tables.{longest_text, table_text, line_rules, AllAccepted, TableOf, NextFault, refused, FaultOf, at_line}
+use Rattle.by_lines.specs.Held.{Told, entry_told, HasBus}
+use Rattle.by_lines.specs.Tables.{longest_text, table_text, line_rules, AllAccepted, TableOf}
 use Rattle.texts.specs.declared.line.Line.{Line}
 use Rattle.texts.specs.declared.line.Line.TheVariants as line
 use Rattle.worked.proofs.Finds.{Found, found, nothing, and_then, when_true, at_most, in_range, same_bytes, is_none, all_true, at_each}
