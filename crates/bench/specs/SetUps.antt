@@ -1,7 +1,7 @@
 -- When a plan and a buffer become a bench, and what bench it is.
 use Rattle.std.specs.Prelude.{◌≡◌, ℕ, ◌<◌, Bool, true, false, ◌&&◌, List, [], length, None, Option, nat_lt}
 use Rattle.std.specs.Option as options
-use Rattle.std.specs.List.{AllByRecursion as All}
+use Rattle.std.specs.List.{AllByRecursion}
 use Rattle.fields.specs.Limits.{Admitted}
 use Rattle.fields.specs.declared.limits.Field.{Field}
 use Rattle.fields.specs.declared.limits.Field.TheVariants.{Frame, Message}
@@ -86,7 +86,7 @@ pub record Proper {B S : Type 0} (k : Kinds B S) (p : Plan B) (buffer : S) : Typ
   pub draft : Draft
   pub book : B
   pub planned : Planned k.book k.meaning draft book p
-  pub listed : All (Listed k.book (k.meaning book)) (entries_of draft)
+  pub listed : AllByRecursion (Listed k.book (k.meaning book)) (entries_of draft)
   pub sound : k.sound buffer
 
 -- What is true of a bench that was set up with a proper plan and buffer: all was ready, it begins its course, and the
