@@ -1,11 +1,11 @@
 -- A bench that was just set up begins its course.
-use Rattle.std.proofs.Common.{◌≡◌, ℕ, ◌<◌, ◌≤◌, Bool, true, false, cond, ◌&&◌, eqb, ltb, List, [], ◌∷◌, map, length, None, vec_items, sym, refl, ap, ◌∙◌, subst, ⊎_elim, arith}
+use Rattle.std.proofs.Common.{◌≡◌, ℕ, ◌≤◌, cond, eqb, List, [], ◌∷◌, map, length, None, vec_items, sym, refl, ap, ◌∙◌, subst, ⊎_elim, arith}
 use Rattle.std.specs.List.{range_with_len}
 use Rattle.std.proofs.lemmas.Bool.{ltb-false, ne_eqb, cond-false, cases_lt, both_ways, and_cases}
 use Rattle.fields.specs.Limits.{Admitted, highest}
 use Rattle.fields.specs.declared.limits.Field.TheVariants.{Frame}
-use Rattle.books.specs.Book.{Book, Lawful, Fresh}
-use Rattle.buffers.specs.Buffer.{Meaning, meant}
+use Rattle.books.specs.Book.{Lawful, Fresh}
+use Rattle.buffers.specs.Buffer.{meant}
 use Rattle.delay.specs.Delay.{total}
 use Rattle.delay.specs.declared.entry.Row.{Row}
 use Rattle.plan.specs.Plans.{rows_of}
@@ -14,7 +14,7 @@ use Rattle.slots.specs.Rows.{SoundTable, needs, last_start_of, size_of}
 use Rattle.slots.specs.Runs.{Run}
 use Rattle.slots.specs.Guarantees.{SetUp}
 use Rattle.slots.proofs.Holds.{delays_hold}
-use Rattle.bench.specs.Benches.{Kinds, rows_in, state_of, Course}
+use Rattle.bench.specs.Benches.{Kinds, rows_in, state_of}
 use Rattle.bench.specs.SetUps.{AllListed, Ready, Proper, Begun, BenchOf}
 use Rattle.bench.specs.declared.bench.Bench.{Bench}
 use Rattle.bench.proofs.Plans.{sound_table}
@@ -53,7 +53,7 @@ pub at_plan : {B S : Type 0} (k : Kinds B S) (p : Plan B) (buffer : S) (P : k.bo
 at_plan k p buffer P rows book same_rows same_book found proper =
     let at_rows = subst (λ l. AllListed k.book (k.meaning book) l → k.sound buffer → P (k.meaning book) l) same_rows found in
     let at-book = subst (λ b. AllListed k.book (k.meaning b) (rows_of p) → k.sound buffer → P (k.meaning b) (rows_of p)) same_book at_rows in
-    let table = sound_table k.book k.meaning proper.draft proper.book p proper.planned in
+    let table = sound_table k.book k.meaning proper.draft proper.book p proper.planned proper.listed in
     at-book table.listed proper.sound
 
 module _ {B S : Type 0} (k : Kinds B S) (lawful : Lawful k.book) (x : Bench B S)
@@ -115,7 +115,7 @@ bench_of k lawful p x sound room outside bus rows book position released started
   no_run = started;
   begun = λ proper.
       let m = meant k.places k.waiting x.buffer in
-      let planned = sound_table k.book k.meaning proper.draft proper.book p proper.planned in
+      let planned = sound_table k.book k.meaning proper.draft proper.book p proper.planned proper.listed in
       let at-bus = subst (λ b. SoundTable b k.book (k.meaning p.book) (rows_of p)) (sym bus) planned in
       let at-book = subst (λ b. SoundTable x.bus k.book (k.meaning b) (rows_of p)) (sym book) at-bus in
       let table = subst (λ l. SoundTable x.bus k.book (k.meaning x.book) l) (sym rows) at-book in

@@ -1,6 +1,6 @@
 -- What the code of a call has found out, and the step of the rules that it has made then.
-use Rattle.std.proofs.Common.{◌≡◌, ℕ, ◌<◌, ◌≤◌, Bool, true, false, cond, not, ◌&&◌, eqb, ltb, leb, List, [], ◌∷◌, length, get_or, is_some, Some, None, Ok, Err, vec_items, Option, sym, refl, ap, ◌∙◌, subst, arith}
-use Rattle.std.proofs.lemmas.Bool.{le-leb, and_from, ne_eqb, not_from_true}
+use Rattle.std.proofs.Common.{◌≡◌, ℕ, ◌≤◌, true, false, cond, ltb, leb, List, length, get_or, is_some, Some, None, Ok, Err, vec_items, Option, sym, refl, ap, ◌∙◌, subst, arith}
+use Rattle.std.proofs.lemmas.Bool.{le-leb, and_from, ne_eqb}
 use Rattle.fields.specs.Limits.{Admitted, admitted, lowest, highest}
 use Rattle.fields.specs.Refusals.{first_of, RefusedFor}
 use Rattle.fields.specs.declared.limits.Field.{Field}
@@ -12,12 +12,12 @@ use Rattle.fields.specs.declared.refusal.Refusal.{Refusal}
 use Rattle.ranked.specs.Ranks.{Placed}
 use Rattle.books.specs.Book.{Lawful}
 use Rattle.books.specs.Book as books
-use Rattle.buffers.specs.Buffer.{meant, put_checks, sendable, Elsewhere}
+use Rattle.buffers.specs.Buffer.{meant, put_checks, Elsewhere}
 use Rattle.buffers.specs.declared.instance.Instance.{Instance}
 use Rattle.delay.specs.declared.entry.Row.{Row}
-use Rattle.slots.specs.Rows.{row_of, last_start_of}
+use Rattle.slots.specs.Rows.{row_of}
 use Rattle.slots.specs.States.{State, allowed, clock}
-use Rattle.slots.specs.Steps.{Step, release_checks, run_checks, by_priority, sends, keeps, used, sent_from, onward, head, behind, cycles}
+use Rattle.slots.specs.Steps.{Step, release_checks, run_checks, by_priority, sends, used, sent_from, onward, head, behind, cycles}
 use Rattle.slots.specs.Runs.{Answered}
 use Rattle.slots.specs.declared.calls.Call.TheVariants as call
 use Rattle.slots.specs.declared.calls.SlotReport.{SlotReport}

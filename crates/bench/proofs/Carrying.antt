@@ -1,5 +1,5 @@
 -- Calls carried out one after the other.
-use Rattle.std.proofs.Common.{◌≡◌, ℕ, zero, suc, ◌+◌, ◌<◌, ◌≤◌, List, [], ◌∷◌, ◌++◌, length, get_or, take, sym, refl, ap, ◌∙◌, subst, ap₂, arith}
+use Rattle.std.proofs.Common.{◌≡◌, ℕ, ◌+◌, ◌<◌, List, [], ◌∷◌, ◌++◌, length, get_or, take, sym, refl, ◌∙◌, subst, ap₂, arith}
 use Rattle.std.proofs.lemmas.List.{take_more, length-take}
 use Rattle.books.specs.Book.{Lawful}
 use Rattle.slots.specs.States.{State}
@@ -8,7 +8,7 @@ use Rattle.slots.specs.declared.calls.Call.{Call}
 use Rattle.slots.specs.declared.calls.Answer.{Answer}
 use Rattle.slots.proofs.Holds.{delays_hold}
 use Rattle.bench.specs.Benches.{Kinds, rows_in, state_of, Course, Kept}
-use Rattle.bench.specs.Carried.{followed, AllPromised, AllKept}
+use Rattle.bench.specs.Carried.{followed, AllKept}
 use Rattle.bench.specs.declared.bench.Bench.{Bench}
 
 followed_push : (past : List Answered) (cs : List Call) (given : List Answer) (c : Call) (a : Answer) → length cs ≡ length given

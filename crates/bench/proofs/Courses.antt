@@ -1,11 +1,10 @@
 -- A bench with a past: what it is sure of, and that a step of the rules is one more of its past.
-use Rattle.std.proofs.Common.{◌≡◌, ℕ, ◌≤◌, List, ◌∷◌, vec_items, Option, sym, refl, ap, ◌∙◌, arith}
+use Rattle.std.proofs.Common.{◌≡◌, ℕ, List, ◌∷◌, Option, arith}
 use Rattle.books.specs.Book.{Lawful}
-use Rattle.slots.specs.Rows.{needs}
 use Rattle.slots.specs.States.{State}
 use Rattle.slots.specs.Steps.{Step}
 use Rattle.slots.specs.Runs.{Answered, Run}
-use Rattle.slots.specs.Guarantees.{Guarantee, InOrder}
+use Rattle.slots.specs.Guarantees.{InOrder}
 use Rattle.slots.specs.declared.calls.Call.{Call}
 use Rattle.slots.specs.declared.calls.Answer.{Answer}
 use Rattle.slots.specs.declared.position.Position.{Position}

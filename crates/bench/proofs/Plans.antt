@@ -1,6 +1,6 @@
 -- The rows of a plan are a sound table for the slot rules.
-use Rattle.std.proofs.Common.{◌≡◌, ℕ, ◌+◌, ◌≤◌, Bool, true, false, not, ◌&&◌, ◌||◌, eqb, leb, List, [], ◌∷◌, map, get_or, Some, None, vec_items, Option, sym, refl, ap, ◌∙◌, subst, inl, inr, ⊎_elim, arith}
-use Rattle.std.specs.List.{AllByRecursion as All}
+use Rattle.std.proofs.Common.{◌≡◌, ℕ, ◌+◌, Bool, true, false, List, [], ◌∷◌, map, get_or, Some, None, vec_items, Option, sym, refl, ap, ◌∙◌, subst, inl, inr, ⊎_elim}
+use Rattle.std.specs.List.{AllByRecursion}
 use Rattle.std.proofs.lemmas.Bool.{and_parts, and_from, not-true, not_from_false, both_ways, or_left, or_right, eqb-true, eq-eqb, ne_eqb, leb-true, cases_eq}
 use Rattle.books.specs.Book.{Book}
 use Rattle.delay.specs.declared.entry.Entry.{Entry}
@@ -35,7 +35,7 @@ every_in f p [] ok x m = absurd m
 every_in f p (z ∷ zs) ok x (inl e) = subst (λ v. p (f v) ≡ true) (sym e) (and_parts _ _ ok).0
 every_in f p (z ∷ zs) ok x (inr m) = every_in f p zs (and_parts _ _ ok).1 x m
 
-all_map_in : {X Y : Type 0} (f : X → Y) (P : Y → Type 0) (xs : List X) → All P (map f xs) → (x : X) → In x xs → P (f x)
+all_map_in : {X Y : Type 0} (f : X → Y) (P : Y → Type 0) (xs : List X) → AllByRecursion P (map f xs) → (x : X) → In x xs → P (f x)
 all_map_in f P [] all x m = absurd m
 all_map_in f P (z ∷ zs) all x (inl e) = subst (λ v. P (f v)) (sym e) all.0
 all_map_in f P (z ∷ zs) all x (inr m) = all_map_in f P zs all.1 x m
@@ -45,7 +45,8 @@ one_start : (o : Option ℕ) (a b : ℕ) → start_is o a ≡ true → start_is 
 one_start None a b x y = absurd (both_ways false refl x)
 one_start (Some s) a b x y = sym (eqb-true s a x) ∙ eqb-true s b y
 
-module _ {B : Type 0} (b : Book) (meaning : B → b.State) (d : Draft) (book : B) (p : Plan B) (planned : Planned b meaning d book p) where
+module _ {B : Type 0} (b : Book) (meaning : B → b.State) (d : Draft) (book : B) (p : Plan B) (planned : Planned b meaning d book p)
+    (listed : AllByRecursion (Listed b (meaning book)) (entries_of d)) where
   entry : Row → Entry
   entry r = r.entry
 
@@ -77,8 +78,8 @@ module _ {B : Type 0} (b : Book) (meaning : B → b.State) (d : Draft) (book : B
         (eq-eqb _ _ (sym e)) (eq-eqb _ _ e);
     one_priority = λ i j m n f e. same_by (λ r. r.entry) priorities_clash (rows_of p) (clear priorities_clash d.one_priority) i j m n
         (and_from _ _ (eq-eqb _ _ (sym f)) (eq-eqb _ _ (sym e))) (and_from _ _ (eq-eqb _ _ f) (eq-eqb _ _ e));
-    listed = all_map_in (λ r. r.entry) (Listed b (meaning book)) (rows_of p) (subst (λ l. All (Listed b (meaning book)) l)
-        (sym planned.sheet.messages) planned.listed);
+    listed = all_map_in (λ r. r.entry) (Listed b (meaning book)) (rows_of p) (subst (λ l. AllByRecursion (Listed b (meaning book)) l)
+        (sym planned.sheet.messages) listed);
     covered = λ i m. (all_in (RowOf d.bus b (meaning book) (rows_of p)) (rows_of p) i planned.sheet.figures m).delay.meets;
   }
 

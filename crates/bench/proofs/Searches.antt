@@ -1,7 +1,7 @@
 -- Searching a field's range from below.
-use Rattle.std.proofs.Common.{◌≡◌, ℕ, ◌+◌, ◌<◌, ◌≤◌, Bool, true, false, sym, subst, ⊎_elim, arith}
+use Rattle.std.proofs.Common.{◌≡◌, ℕ, ◌+◌, ◌<◌, Bool, false, sym, subst, ⊎_elim, arith}
 use Rattle.std.proofs.lemmas.Bool.{cases_eq}
-use Rattle.fields.specs.Limits.{Admitted, highest}
+use Rattle.fields.specs.Limits.{highest}
 use Rattle.fields.specs.declared.limits.Field.{Field}
 use Rattle.bench.specs.SetUps.{NoneIn, NoneBelow}
 

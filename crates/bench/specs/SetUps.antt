@@ -1,6 +1,7 @@
 -- When a plan and a buffer become a bench, and what bench it is.
 use Rattle.std.specs.Prelude.{◌≡◌, ℕ, ◌<◌, Bool, true, false, ◌&&◌, List, [], length, None, Option, nat_lt}
 use Rattle.std.specs.Option as options
+use Rattle.std.specs.List.{AllByRecursion}
 use Rattle.fields.specs.Limits.{Admitted}
 use Rattle.fields.specs.declared.limits.Field.{Field}
 use Rattle.fields.specs.declared.limits.Field.TheVariants.{Frame, Message}
@@ -13,7 +14,9 @@ use Rattle.fields.specs.declared.refusal.Refusal.{Refusal}
 use Rattle.books.specs.Book.{Book}
 use Rattle.buffers.specs.Buffer.{Meaning, meant}
 use Rattle.delay.specs.declared.entry.Row.{Row}
+use Rattle.plan.specs.Drafts.{entries_of}
 use Rattle.plan.specs.Plans.{rows_of, Planned}
+use Rattle.plan.specs.Sheets.{Listed}
 use Rattle.plan.specs.declared.draft.Draft.{Draft}
 use Rattle.plan.specs.declared.plan.Plan.{Plan}
 use Rattle.slots.specs.Rows.{In, needs}
@@ -78,11 +81,12 @@ FaultOf b s rows m making.Memory = Unit {0}
 abbrev pub AllListed : (b : Book) → b.State → List Row → Type 0
 AllListed b s rows = (i : Row) → In i rows → b.lists s i.entry.number ≡ true
 
--- What is asked of a plan and a buffer: a draft became the plan, and the buffer is sound.
+-- What is asked of a plan and a buffer: a draft became the plan, whose messages the book all lists, and the buffer is sound.
 pub record Proper {B S : Type 0} (k : Kinds B S) (p : Plan B) (buffer : S) : Type 0 where
   pub draft : Draft
   pub book : B
   pub planned : Planned k.book k.meaning draft book p
+  pub listed : AllByRecursion (Listed k.book (k.meaning book)) (entries_of draft)
   pub sound : k.sound buffer
 
 -- What is true of a bench that was set up with a proper plan and buffer: all was ready, it begins its course, and the

@@ -26,8 +26,8 @@ fn read(table: &[u16], place: u16, other: u16) -> u16
 // minislot in which its frame may start.
 fn take_for<S: SendBuffer>(buffer: &mut S, position: &Position, latest: u16) -> Option<Instance>
     ensures taken { S.SendBuffer.sound buffer.old →
-        TakenIf (nat_le position.now.minislot latest) (meant places waiting buffer.old) position.now.slot result
-        (meant places waiting buffer.new) }
+        TakenIf (nat_le position.now.minislot latest) (meant S.SendBuffer.places S.SendBuffer.waiting buffer.old) position.now.slot result
+        (meant S.SendBuffer.places S.SendBuffer.waiting buffer.new) }
     ensures sound { S.SendBuffer.sound buffer.old → S.SendBuffer.sound buffer.new }
 {
     if position.minislot <= latest {
@@ -50,7 +50,7 @@ fn refused(reason: Reason, message: u16) -> Refusal
 impl<B: ReleaseBook, S: SendBuffer> Bench<B, S> {
     // Runs the next slot.
     pub fn slot_run(&mut self) -> Result<SlotReport, Refusal>
-        ensures { Kept (kinds B.ReleaseBook.book meaning places waiting S.SendBuffer.sound)
+        ensures { Kept (kinds B.ReleaseBook.book B.ReleaseBook.meaning S.SendBuffer.places S.SendBuffer.waiting S.SendBuffer.sound)
             self.old call.SlotRun (answer.Ran result) self.new }
     {
         if let Err(e) = may_run(&self.position) {
@@ -91,7 +91,7 @@ impl<B: ReleaseBook, S: SendBuffer> Bench<B, S> {
 
     // Releases a message at a time. What is refused leaves the bench as it was.
     pub fn release(&mut self, message: u16, time: u64) -> Result<(), Refusal>
-        ensures { Kept (kinds B.ReleaseBook.book meaning places waiting S.SendBuffer.sound)
+        ensures { Kept (kinds B.ReleaseBook.book B.ReleaseBook.meaning S.SendBuffer.places S.SendBuffer.waiting S.SendBuffer.sound)
             self.old (call.Release message time) (answer.Released result) self.new }
     {
         let Some(row) = row_of(self.rows.as_slice(), message) else {
@@ -117,7 +117,7 @@ impl<B: ReleaseBook, S: SendBuffer> Bench<B, S> {
 
     // Where the bench stands: its cycle, and its minislot in it.
     pub fn position(&self) -> (u32, u16)
-        ensures { Kept (kinds B.ReleaseBook.book meaning places waiting S.SendBuffer.sound)
+        ensures { Kept (kinds B.ReleaseBook.book B.ReleaseBook.meaning S.SendBuffer.places S.SendBuffer.waiting S.SendBuffer.sound)
             self.now call.Position (answer.At result) self.now }
     {
         (self.position.cycle, self.position.minislot)

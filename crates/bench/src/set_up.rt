@@ -31,9 +31,9 @@ fn refused(reason: Reason, concerns: u16) -> Refusal
 
 // The places that one row needs of a frame.
 fn need_of<B: ReleaseBook>(row: &Row, book: &B, frame: u16) -> u32
-    ensures { B.ReleaseBook.book.lists (meaning book.now) row.now.entry.number ≡ true →
+    ensures { B.ReleaseBook.book.lists (B.ReleaseBook.meaning book.now) row.now.entry.number ≡ true →
         result ≡ cond (row.now.entry.frame == frame)
-        (B.ReleaseBook.book.count (meaning book.now) row.now.entry.number row.now.delay) 0 }
+        (B.ReleaseBook.book.count (B.ReleaseBook.meaning book.now) row.now.entry.number row.now.delay) 0 }
 {
     if row.entry.frame != frame {
         return 0;
@@ -46,8 +46,8 @@ fn need_of<B: ReleaseBook>(row: &Row, book: &B, frame: u16) -> u32
 
 // The places that all rows need of a frame.
 fn needs_of<B: ReleaseBook>(rows: &[Row], book: &B, frame: u16) -> u128
-    ensures { AllListed B.ReleaseBook.book (meaning book.now) rows.now →
-        result ≡ needs (B.ReleaseBook.book.count (meaning book.now)) rows.now frame }
+    ensures { AllListed B.ReleaseBook.book (B.ReleaseBook.meaning book.now) rows.now →
+        result ≡ needs (B.ReleaseBook.book.count (B.ReleaseBook.meaning book.now)) rows.now frame }
 {
     let mut total: u128 = 0;
     for row in rows {
@@ -58,9 +58,9 @@ fn needs_of<B: ReleaseBook>(rows: &[Row], book: &B, frame: u16) -> u128
 
 // The lowest frame that has fewer places than its messages need.
 fn lowest_short<B: ReleaseBook, S: SendBuffer>(rows: &[Row], book: &B, buffer: &S) -> Option<u16>
-    ensures { AllListed B.ReleaseBook.book (meaning book.now) rows.now → S.SendBuffer.sound buffer.now →
-        Lowest field.Frame (too_few B.ReleaseBook.book (meaning book.now) rows.now
-        (meant places waiting buffer.now)) result }
+    ensures { AllListed B.ReleaseBook.book (B.ReleaseBook.meaning book.now) rows.now → S.SendBuffer.sound buffer.now →
+        Lowest field.Frame (too_few B.ReleaseBook.book (B.ReleaseBook.meaning book.now) rows.now
+        (meant S.SendBuffer.places S.SendBuffer.waiting buffer.now)) result }
 {
     let limits = limits_of(Field::Frame);
     for number in limits.low..=limits.high {
@@ -74,7 +74,7 @@ fn lowest_short<B: ReleaseBook, S: SendBuffer>(rows: &[Row], book: &B, buffer: &
 
 // The lowest frame for which something waits.
 fn lowest_waiting<S: SendBuffer>(buffer: &S) -> Option<u16>
-    ensures { S.SendBuffer.sound buffer.now → Lowest field.Frame (waits (meant places waiting buffer.now)) result }
+    ensures { S.SendBuffer.sound buffer.now → Lowest field.Frame (waits (meant S.SendBuffer.places S.SendBuffer.waiting buffer.now)) result }
 {
     let limits = limits_of(Field::Frame);
     for number in limits.low..=limits.high {
@@ -88,7 +88,7 @@ fn lowest_waiting<S: SendBuffer>(buffer: &S) -> Option<u16>
 
 // Whether a message may not be released at once.
 fn is_early<B: ReleaseBook>(book: &B, message: u16) -> bool
-    ensures { result ≡ early B.ReleaseBook.book (meaning book.now) message }
+    ensures { result ≡ early B.ReleaseBook.book (B.ReleaseBook.meaning book.now) message }
 {
     match book.earliest(message) {
         Ok(earliest) => earliest > 0,
@@ -98,7 +98,7 @@ fn is_early<B: ReleaseBook>(book: &B, message: u16) -> bool
 
 // The lowest message that may not be released at once.
 fn lowest_early<B: ReleaseBook>(book: &B) -> Option<u16>
-    ensures { Lowest field.Message (early B.ReleaseBook.book (meaning book.now)) result }
+    ensures { Lowest field.Message (early B.ReleaseBook.book (B.ReleaseBook.meaning book.now)) result }
 {
     let limits = limits_of(Field::Message);
     for number in limits.low..=limits.high {
@@ -112,9 +112,9 @@ fn lowest_early<B: ReleaseBook>(book: &B) -> Option<u16>
 
 // Why rows, book and buffer make no bench, if so.
 fn unready<B: ReleaseBook, S: SendBuffer>(rows: &[Row], book: &B, buffer: &S) -> Option<Refusal>
-    ensures { AllListed B.ReleaseBook.book (meaning book.now) rows.now → S.SendBuffer.sound buffer.now →
-        options.MatchOption result (Ready B.ReleaseBook.book (meaning book.now) rows.now (meant places waiting buffer.now))
-        (λ e. RefusedAs B.ReleaseBook.book (meaning book.now) rows.now (meant places waiting buffer.now) e) }
+    ensures { AllListed B.ReleaseBook.book (B.ReleaseBook.meaning book.now) rows.now → S.SendBuffer.sound buffer.now →
+        options.MatchOption result (Ready B.ReleaseBook.book (B.ReleaseBook.meaning book.now) rows.now (meant S.SendBuffer.places S.SendBuffer.waiting buffer.now))
+        (λ e. RefusedAs B.ReleaseBook.book (B.ReleaseBook.meaning book.now) rows.now (meant S.SendBuffer.places S.SendBuffer.waiting buffer.now) e) }
 {
     if let Some(frame) = lowest_short(rows, book, buffer) {
         return Some(refused(Reason::TooFewPlaces, frame));
@@ -172,8 +172,8 @@ pub fn set_up<B: ReleaseBook, S: SendBuffer>(
     plan: Plan<B>,
     buffer: S,
 ) -> Result<Bench<B, S>, BenchRefused<B, S>>
-    ensures { MatchResult result (λ x. BenchOf (kinds B.ReleaseBook.book meaning places waiting S.SendBuffer.sound) plan buffer x)
-        (λ e. NoBench (kinds B.ReleaseBook.book meaning places waiting S.SendBuffer.sound) plan buffer e) }
+    ensures { MatchResult result (λ x. BenchOf (kinds B.ReleaseBook.book B.ReleaseBook.meaning S.SendBuffer.places S.SendBuffer.waiting S.SendBuffer.sound) plan buffer x)
+        (λ e. NoBench (kinds B.ReleaseBook.book B.ReleaseBook.meaning S.SendBuffer.places S.SendBuffer.waiting S.SendBuffer.sound) plan buffer e) }
 {
     if let Some(refusal) = unready(plan.sheet(), plan.book(), &buffer) {
         let fault = MakingFault::Refused(refusal);

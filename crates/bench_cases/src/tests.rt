@@ -15,7 +15,7 @@ use plan::plan::Plan;
 use slots::calls::{Answer, Call, Sent, SlotReport};
 use std::alloc::Global;
 use std::process::Abort;
-use std::test::*;
+use std::test::Fail;
 
 const MESSAGES: [Message; 4] = [
     Message {
@@ -99,17 +99,22 @@ fn joint(heap: Global) -> Result<JointBook<PeriodicBook, WindowBook>, Fail> {
 }
 
 // The plan of those messages that the book lists.
-fn plan_over<B: ReleaseBook + Drop>(heap: Global, book: B) -> Result<Plan<B>, Fail> {
-    let Ok(mut draft) = Draft::new(heap, 100, 40, 2, 25) else {
+fn plan_over<B: ReleaseBook + Drop>(
+    rt: &(impl Abort + AllocGlobal),
+    book: B,
+) -> Result<Plan<B>, Fail> {
+    let Ok(mut draft) = Draft::new(rt.alloc(), 100, 40, 2, 25) else {
         return Err(Fail::new("no draft"));
     };
-    assert!(draft.node(1, 20).is_ok() && draft.node(2, 18).is_ok() && draft.node(3, 20).is_ok());
+    assert!(rt;
+        draft.node(1, 20).is_ok() && draft.node(2, 18).is_ok() && draft.node(3, 20).is_ok()
+    );
     for message in &MESSAGES {
         if book.lists(message.number) {
-            assert!(draft.message(*message).is_ok());
+            assert!(rt; draft.message(*message).is_ok());
         }
     }
-    match draft.into_plan(heap, book) {
+    match draft.into_plan(rt.alloc(), book) {
         Ok(plan) => Ok(plan),
         Err(_) => Err(Fail::new("no plan")),
     }
@@ -183,7 +188,7 @@ impl Stretch {
 
 // Runs releases, then slots, then the question, and compares all answers.
 fn plays<B: ReleaseBook + Drop, S: SendBuffer + Drop>(
-    rt: &HostRuntime,
+    rt: &(impl Abort + AllocGlobal),
     plan: Plan<B>,
     buffer: S,
     releases: &[(Call, Answer)],
@@ -208,11 +213,11 @@ fn plays<B: ReleaseBook + Drop, S: SendBuffer + Drop>(
     calls.push(Call::Position)?;
     due.push(Answer::At(stands))?;
     let answers = bench.carry_out(rt.alloc(), calls.as_slice())?;
-    assert!(answers.as_slice() == due.as_slice());
+    assert!(rt; answers.as_slice() == due.as_slice());
     Ok(())
 }
 
-fn whole<S: SendBuffer + Drop>(rt: &HostRuntime, buffer: S) -> Result<(), Fail> {
+fn whole<S: SendBuffer + Drop>(rt: &(impl Abort + AllocGlobal), buffer: S) -> Result<(), Fail> {
     let releases = [
         (release(1, 0), accepted()),
         (release(2, 0), accepted()),
@@ -234,7 +239,7 @@ fn whole<S: SendBuffer + Drop>(rt: &HostRuntime, buffer: S) -> Result<(), Fail> 
         sends(2, 2, 242, 3, 248),
         empty(2, 3, 2, 248),
     ];
-    let plan = plan_over(rt.alloc(), joint(rt.alloc())?)?;
+    let plan = plan_over(rt, joint(rt.alloc())?)?;
     plays(rt, plan, buffer, &releases, &stretches, (2, 7))
 }
 
@@ -289,7 +294,7 @@ fn over_the_periodic_book(rt: HostRuntime) -> Result<(), Fail> {
         empty(0, 6, 8, 74),
         empty(1, 1, 25, 140),
     ];
-    let plan = plan_over(rt.alloc(), book)?;
+    let plan = plan_over(&rt, book)?;
     plays(
         &rt,
         plan,
@@ -318,7 +323,7 @@ fn over_the_window_book(rt: HostRuntime) -> Result<(), Fail> {
         empty(1, 1, 1, 140),
         sends(1, 2, 142, 3, 148),
     ];
-    let plan = plan_over(rt.alloc(), book)?;
+    let plan = plan_over(&rt, book)?;
     plays(
         &rt,
         plan,
@@ -337,7 +342,7 @@ fn is_refused<B: ReleaseBook + Drop>(
     reason: Reason,
     concerns: u32,
 ) -> Result<(), Fail> {
-    let plan = plan_over(rt.alloc(), book)?;
+    let plan = plan_over(rt, book)?;
     let fault = MakingFault::Refused(Refusal {
         reason,
         place: Place::SettingUp,

@@ -1,7 +1,7 @@
 -- The instance that leads among the first of the held ones, as one after the other is looked at.
-use Rattle.std.proofs.Common.{◌≡◌, ℕ, ◌+◌, ◌<◌, ◌≤◌, Bool, true, false, ltb, List, [], ◌∷◌, ◌++◌, length, take, Some, None, Option, sym, refl, ap, ◌∙◌, arith}
+use Rattle.std.proofs.Common.{◌≡◌, ℕ, ◌<◌, ◌≤◌, Bool, true, false, ltb, List, [], ◌∷◌, ◌++◌, length, Some, None, Option, sym, refl, ap, ◌∙◌, arith}
 use Rattle.std.specs.Option as options
-use Rattle.std.specs.List.{AllByRecursion as All}
+use Rattle.std.specs.List.{AllByRecursion}
 use Rattle.std.proofs.ByRecursion.{All-append, All-push, All-weaker}
 use Rattle.std.proofs.lemmas.List.{append_assoc}
 use Rattle.std.proofs.lemmas.Bool.{ltb-true, ltb-false, false≢true}
@@ -11,7 +11,7 @@ use Rattle.buffers.specs.declared.pool.held.Lead.{Lead}
 
 -- the leading one, if any is held for the frame
 abbrev pub Leads : ℕ → List Held → Option Lead → Type 0
-Leads f hs lead = options.MatchOption lead (All (λ h. h.frame ≡ f → ⊥) hs) (λ l. (n : Next f hs l.place) × (n.chosen.instance.priority ≡ l.priority))
+Leads f hs lead = options.MatchOption lead (AllByRecursion (λ h. h.frame ≡ f → ⊥) hs) (λ l. (n : Next f hs l.place) × (n.chosen.instance.priority ≡ l.priority))
 
 -- whether one of the priority is more urgent than the leading one
 abbrev pub Overtakes : ℕ → Option Lead → Bool → Type 0
@@ -37,7 +37,7 @@ stays_behind f hs (Some lead) h behind (n, same) = (
 
 -- all that are held for the frame are less urgent
 later : (f : ℕ) (hs : List Held) (lead : Option Lead) (q : ℕ) → Overtakes q lead true → Leads f hs lead
-    → All (λ h. h.frame ≡ f → q < h.instance.priority) hs
+    → AllByRecursion (λ h. h.frame ≡ f → q < h.instance.priority) hs
 later f hs None q first none = All-weaker (λ h. h.frame ≡ f → ⊥) (λ h. h.frame ≡ f → q < h.instance.priority) (λ h out e. absurd (out e)) hs none
 later f hs (Some lead) q first (n, same) =
     let less = ltb-true q lead.priority (sym first) in

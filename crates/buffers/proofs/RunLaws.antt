@@ -2,7 +2,7 @@
 use Rattle.std.proofs.Common.{◌≡◌, ℕ, ◌+◌, ◌<◌, Bool, true, false, cond, ◌&&◌, eqb, List, [], ◌∷◌, ◌++◌, length, get_or, take, is_ok, Some, None, Ok, Err, Option, Result, sym, refl, ap, ◌∙◌, ⊎_elim, arith}
 use Rattle.std.specs.Option as options
 use Rattle.std.specs.Option.{option_to_list}
-use Rattle.std.specs.List.{AllByRecursion as All}
+use Rattle.std.specs.List.{AllByRecursion}
 use Rattle.std.proofs.lemmas.List.Elements.{filter-append}
 use Rattle.std.proofs.ByRecursion.{All-weaker}
 use Rattle.std.proofs.lemmas.List.{append_assoc, append-nil, take_more}
@@ -26,7 +26,7 @@ carried_push (Carried.one_more here first rest) last step = Carried.one_more her
 
 -- there is one place for an instance only
 one_place : {X : Type 0} (upto : X → X → Bool) (x : X) (front back front' back' : List X) → front ++ back ≡ front' ++ back'
-    → All (λ y. upto y x ≡ true) front → All (λ y. upto y x ≡ true) front'
+    → AllByRecursion (λ y. upto y x ≡ true) front → AllByRecursion (λ y. upto y x ≡ true) front'
     → ((y : X) (ys : List X) → back ≡ y ∷ ys → upto y x ≡ false) → ((y : X) (ys : List X) → back' ≡ y ∷ ys → upto y x ≡ false)
     → front ++ x ∷ back ≡ front' ++ x ∷ back'
 one_place upto x [] back [] back' e b b' s s' = ap (λ l. x ∷ l) e

@@ -1,7 +1,7 @@
 -- A list read out by priority: one more at its end, its first one taken out, and its order.
-use Rattle.std.specs.Prelude.{◌≡◌, ℕ, zero, suc, ◌+◌, ◌<◌, ◌≤◌, true, false, cond, ◌⊎◌, List, [], ◌∷◌, ◌++◌, filter, ◌==◌, ◌≢◌, nat_eq, refl}
+use Rattle.std.specs.Prelude.{◌≡◌, ℕ, zero, suc, ◌<◌, ◌≤◌, true, false, List, [], ◌∷◌, ◌++◌, ◌==◌, ◌≢◌, nat_eq, refl}
 use Rattle.std.proofs.Common.{sym, ap, ◌∙◌, ⊎_elim, arith}
-use Rattle.std.specs.List.{AllByRecursion as All}
+use Rattle.std.specs.List.{AllByRecursion}
 use Rattle.std.proofs.lemmas.List.Elements.{filter-append}
 use Rattle.std.proofs.ByRecursion.{All-append, all_kept_by, All-weaker, kept_by_passes}
 use Rattle.std.proofs.lemmas.List.{append_assoc, append-nil}
@@ -12,7 +12,7 @@ use Rattle.buffers.specs.Pooled.{up_to_priority}
 use Rattle.buffers.specs.declared.instance.Instance.{Instance}
 
 -- nothing is of a priority that no element has
-pub none_of : (p : ℕ) (xs : List Instance) → All (λ x. x.priority ≢ p) xs → of_priority p xs ≡ []
+pub none_of : (p : ℕ) (xs : List Instance) → AllByRecursion (λ x. x.priority ≢ p) xs → of_priority p xs ≡ []
 none_of p [] all = refl
 none_of p (x ∷ xs) all = cond-false (x.priority == p) _ _ (ne_eqb x.priority p all.0) ∙ none_of p xs all.1
 
@@ -38,7 +38,7 @@ below_out (suc n) x xs ys l =
     rw (rest, here)
 
 -- what is read out keeps what holds of each element
-pub all_read : (P : Instance → Type 0) (n : ℕ) (xs : List Instance) → All P xs → All P (up_to_priority n xs)
+pub all_read : (P : Instance → Type 0) (n : ℕ) (xs : List Instance) → AllByRecursion P xs → AllByRecursion P (up_to_priority n xs)
 unfolding up_to_priority
 all_read P zero xs all = tt
 all_read P (suc n) xs all = All-append P (up_to_priority n xs) (of_priority (suc n) xs) (all_read P n xs all) (all_kept_by (λ x. nat_eq x.priority (suc n)) P xs all)
@@ -49,7 +49,7 @@ none_read zero = refl
 none_read (suc n) = rw (none_read n)
 
 -- no priority above n is read out
-read_upto : (n : ℕ) (xs : List Instance) → All (λ x. x.priority ≤ n) (up_to_priority n xs)
+read_upto : (n : ℕ) (xs : List Instance) → AllByRecursion (λ x. x.priority ≤ n) (up_to_priority n xs)
 unfolding up_to_priority
 read_upto zero xs = tt
 read_upto (suc n) xs = All-append (λ x. x.priority ≤ suc n) (up_to_priority n xs) (of_priority (suc n) xs)
@@ -63,8 +63,8 @@ pub record Between (x : Instance) (old new : List Instance) : Type 0 where
   pub back : List Instance
   pub parts : old ≡ front ++ back
   pub put : new ≡ front ++ x ∷ back
-  pub behind : All (λ y. upto y x ≡ true) front
-  pub above : All (λ y. upto y x ≡ false) back
+  pub behind : AllByRecursion (λ y. upto y x ≡ true) front
+  pub above : AllByRecursion (λ y. upto y x ≡ false) back
 
 placed_between : (x : Instance) (old new : List Instance) → Between x old new → Placed upto x old new
 placed_between x old new b = record {
@@ -77,7 +77,7 @@ placed_between x old new b = record {
   before = λ _. b.above;
 }
 
-above_class : (x : Instance) (p : ℕ) (xs : List Instance) → x.priority < p → All (λ y. upto y x ≡ false) (of_priority p xs)
+above_class : (x : Instance) (p : ℕ) (xs : List Instance) → x.priority < p → AllByRecursion (λ y. upto y x ≡ false) (of_priority p xs)
 above_class x p xs l = All-weaker (λ y. (y.priority == p) ≡ true) (λ y. upto y x ≡ false)
     (λ y e. let same = eqb-true y.priority p e in lt-leb y.priority x.priority (omega arith)) (of_priority p xs) (kept_by_passes (λ y. nat_eq y.priority p) xs)
 
@@ -114,7 +114,7 @@ between_last (suc n) x xs some l = ⊎_elim
 pub placed_last : (n : ℕ) (x : Instance) (xs : List Instance) → 1 ≤ x.priority → x.priority ≤ n → Placed upto x (up_to_priority n xs) (up_to_priority n (xs ++ x ∷ []))
 placed_last n x xs some l = placed_between x _ _ (between_last n x xs some l)
 
-none_below : (n : ℕ) (xs : List Instance) → All (λ x. n < x.priority) xs → up_to_priority n xs ≡ []
+none_below : (n : ℕ) (xs : List Instance) → AllByRecursion (λ x. n < x.priority) xs → up_to_priority n xs ≡ []
 unfolding up_to_priority
 none_below zero xs all = refl
 none_below (suc n) xs all =
@@ -127,7 +127,7 @@ first_of_class x a b c d e ys p q r s t = rw (p, q, s, t, r)
 
 -- the first one, more urgent than all before it in the list and no less urgent than all after it
 pub first_read : (n : ℕ) (x : Instance) (xs ys : List Instance) → 1 ≤ x.priority → x.priority ≤ n
-    → All (λ y. x.priority < y.priority) xs → All (λ y. x.priority ≤ y.priority) ys
+    → AllByRecursion (λ y. x.priority < y.priority) xs → AllByRecursion (λ y. x.priority ≤ y.priority) ys
     → up_to_priority n (xs ++ x ∷ ys) ≡ x ∷ up_to_priority n (xs ++ ys)
 unfolding up_to_priority
 first_read zero x xs ys some l before after = absurd (omega arith)
@@ -149,14 +149,14 @@ first_read (suc n) x xs ys some l before after = ⊎_elim
     (cases_lt x.priority (suc n))
 
 -- elements of one priority ascend, and so they do behind those of smaller ones
-equal_ascends : (p : ℕ) (ys : List Instance) → All (λ y. y.priority ≡ p) ys → Ascending upto ys
+equal_ascends : (p : ℕ) (ys : List Instance) → AllByRecursion (λ y. y.priority ≡ p) ys → Ascending upto ys
 equal_ascends p [] all = tt
 equal_ascends p (y ∷ ys) all = (
   All-weaker (λ z. z.priority ≡ p) (λ z. upto y z ≡ true) (λ z e. le-leb y.priority z.priority (omega (arith, all.0))) ys all.1,
   equal_ascends p ys all.1,
 )
 
-class_ascends : (p : ℕ) (xs ys : List Instance) → Ascending upto xs → All (λ x. x.priority ≤ p) xs → All (λ y. y.priority ≡ suc p) ys → Ascending upto (xs ++ ys)
+class_ascends : (p : ℕ) (xs ys : List Instance) → Ascending upto xs → AllByRecursion (λ x. x.priority ≤ p) xs → AllByRecursion (λ y. y.priority ≡ suc p) ys → Ascending upto (xs ++ ys)
 class_ascends p [] ys asc low same = equal_ascends (suc p) ys same
 class_ascends p (x ∷ xs) ys asc low same = (
   All-append (λ y. upto x y ≡ true) xs ys asc.0

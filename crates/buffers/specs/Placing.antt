@@ -2,7 +2,7 @@
 use Rattle.std.specs.Prelude.{◌≡◌, ◌+◌, ◌≤◌, Bool, List, [], ◌∷◌, ◌++◌, length, Ok, Err, Result}
 use Rattle.std.proofs.Common.{ap, ◌∙◌, arith}
 use Rattle.std.specs.Result as results
-use Rattle.std.specs.List.{AllByRecursion as All}
+use Rattle.std.specs.List.{AllByRecursion}
 use Rattle.std.proofs.ByRecursion.{All-append}
 use Rattle.std.proofs.lemmas.List.{length-append}
 use Rattle.ranked.specs.Ranks.{Placed}
@@ -20,12 +20,12 @@ pub put_length : {X : Type 0} (upto : X → X → Bool) (x : X) (old new : List 
 put_length upto x old new (Ok done) p = omega (arith, placed_length upto x old new p)
 put_length upto x old new (Err e) p = omega (arith, ap length p.1)
 
-pub all_parts : {X : Type 0} (P : X → Type 0) (xs ys : List X) → All P (xs ++ ys) → All P xs × All P ys
+pub all_parts : {X : Type 0} (P : X → Type 0) (xs ys : List X) → AllByRecursion P (xs ++ ys) → AllByRecursion P xs × AllByRecursion P ys
 all_parts P [] ys all = (tt, all)
 all_parts P (x ∷ xs) ys all = let rest = all_parts P xs ys all.1 in ((all.0, rest.0), rest.1)
 
 -- what holds of each element and of the new one
-pub placed_all : {X : Type 0} (P : X → Type 0) (upto : X → X → Bool) (x : X) (old new : List X) → Placed upto x old new → P x → All P old → All P new
+pub placed_all : {X : Type 0} (P : X → Type 0) (upto : X → X → Bool) (x : X) (old new : List X) → Placed upto x old new → P x → AllByRecursion P old → AllByRecursion P new
 placed_all P upto x old new p here all =
     let parts = all_parts P p.front p.back (rw p.parts at all) in
     rw p.put (All-append P p.front (x ∷ p.back) parts.0 (here, parts.1))

@@ -1,7 +1,7 @@
 -- What a pool means before and after each call.
-use Rattle.std.specs.Prelude.{◌≡◌, ℕ, zero, suc, ◌+◌, ◌-◌, ◌<◌, ◌≤◌, true, false, cond, ◌&&◌, List, [], ◌∷◌, ◌++◌, map, length, get_or, Some, Ok, Err, filter, ◌==◌, ◌≢◌, nat_eq, slice_index, slice_index_or, slice_set, refl}
+use Rattle.std.specs.Prelude.{◌≡◌, ℕ, zero, suc, ◌+◌, ◌-◌, ◌<◌, ◌≤◌, true, ◌&&◌, List, [], ◌∷◌, ◌++◌, map, length, get_or, Some, Ok, Err, filter, ◌==◌, ◌≢◌, nat_eq, slice_index, slice_index_or, slice_set, refl}
 use Rattle.std.proofs.Common.{sym, ap, subst, ◌∙◌, inr, ⊎_elim, arith}
-use Rattle.std.specs.List.{remove, AllByRecursion as All}
+use Rattle.std.specs.List.{remove, AllByRecursion}
 use Rattle.std.proofs.lemmas.List.Elements.{filter-append}
 use Rattle.std.proofs.ByRecursion.{All-append, All-push, All-weaker}
 use Rattle.std.proofs.lemmas.List.{append-nil, get_or_at, get_or_past, get_or-set_same, get_or-set_other, length-append, map-append, nil_from_length}
@@ -39,7 +39,7 @@ other_arrival f xs h ys other =
     ∙ sym (arrivals_append f xs ys)
 
 -- what holds of all that are held for the frame
-all_arrivals : (P : Instance → Type 0) (f : ℕ) (hs : List Held) → All (λ h. h.frame ≡ f → P h.instance) hs → All P (arrivals f hs)
+all_arrivals : (P : Instance → Type 0) (f : ℕ) (hs : List Held) → AllByRecursion (λ h. h.frame ≡ f → P h.instance) hs → AllByRecursion P (arrivals f hs)
 all_arrivals P f [] all = tt
 all_arrivals P f (h ∷ hs) all = ⊎_elim
     (λ own. rw (cond-true (h.frame == f) (h ∷ filter (λ x. nat_eq x.frame f) hs) (filter (λ x. nat_eq x.frame f) hs) (eq-eqb h.frame f own))
@@ -48,10 +48,10 @@ all_arrivals P f (h ∷ hs) all = ⊎_elim
     (all_arrivals P f hs all.1))
     (cases_eq h.frame f)
 
-pub nothing_held : (f : ℕ) (hs : List Held) → All (λ h. h.frame ≢ f) hs → pooled hs f ≡ []
+pub nothing_held : (f : ℕ) (hs : List Held) → AllByRecursion (λ h. h.frame ≢ f) hs → pooled hs f ≡ []
 nothing_held f hs all = rw (none_arrives hs all) (none_read (highest Priority))
   where
-    none_arrives : (xs : List Held) → All (λ h. h.frame ≢ f) xs → arrivals f xs ≡ []
+    none_arrives : (xs : List Held) → AllByRecursion (λ h. h.frame ≢ f) xs → arrivals f xs ≡ []
     none_arrives [] all = refl
     none_arrives (h ∷ xs) all = other_arrival f [] h xs all.0 ∙ none_arrives xs all.1
 
@@ -89,8 +89,8 @@ removed_at (x ∷ front) h back = ap (λ l. x ∷ l) (removed_at front h back)
 
 -- what waits for the frame of the next one, before and after it is taken out
 first_pooled : (f : ℕ) (front : List Held) (h : Held) (back : List Held) → h.frame ≡ f → sendable h.instance ≡ true
-    → All (λ x. x.frame ≡ f → h.instance.priority < x.instance.priority) front
-    → All (λ x. x.frame ≡ f → h.instance.priority ≤ x.instance.priority) back
+    → AllByRecursion (λ x. x.frame ≡ f → h.instance.priority < x.instance.priority) front
+    → AllByRecursion (λ x. x.frame ≡ f → h.instance.priority ≤ x.instance.priority) back
     → pooled (front ++ h ∷ back) f ≡ h.instance ∷ pooled (front ++ back) f
 first_pooled f front h back own ok before after =
     let p = priority_in_range h.instance ok in
@@ -139,7 +139,7 @@ module _ (places free : List ℕ) (hs : List Held) (f : ℕ) (sound : SoundPool 
         let before = sound.counted f in
         put_full (pool_meaning places hs) (pool_meaning places hs) f x range (record { places = λ k. refl; waiting = λ k ne. refl }) (omega arith) refl
 
-pub pool_in_range : (hs : List Held) (f : ℕ) → All (λ h. sendable h.instance ≡ true) hs → All (λ x. sendable x ≡ true) (pooled hs f)
+pub pool_in_range : (hs : List Held) (f : ℕ) → AllByRecursion (λ h. sendable h.instance ≡ true) hs → AllByRecursion (λ x. sendable x ≡ true) (pooled hs f)
 pool_in_range hs f all =
     all_read (λ x. sendable x ≡ true) (highest Priority) (arrivals f hs)
     (all_arrivals (λ x. sendable x ≡ true) f hs (All-weaker (λ h. sendable h.instance ≡ true) (λ h. h.frame ≡ f → sendable h.instance ≡ true) (λ h e _. e) hs all))
@@ -147,8 +147,8 @@ pool_in_range hs f all =
 -- the next one is taken, and its place is free again
 module _ (places free : List ℕ) (f : ℕ) (l : f < length free) (front : List Held) (h : Held) (back : List Held) where
   taken_out : SoundPool places free (front ++ h ∷ back) → h.frame ≡ f
-      → All (λ x. x.frame ≡ f → h.instance.priority < x.instance.priority) front
-      → All (λ x. x.frame ≡ f → h.instance.priority ≤ x.instance.priority) back
+      → AllByRecursion (λ x. x.frame ≡ f → h.instance.priority < x.instance.priority) front
+      → AllByRecursion (λ x. x.frame ≡ f → h.instance.priority ≤ x.instance.priority) back
       → (n : ℕ) → n ≡ slice_index free f
       → Taking (pool_meaning places (front ++ h ∷ back)) f (Some h.instance) (pool_meaning places (front ++ back)) × SoundPool places (slice_set free f (n + 1)) (front ++ back)
   taken_out sound own before after n read =

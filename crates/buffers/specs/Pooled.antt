@@ -2,7 +2,7 @@
 -- of equal priority as they came.
 use Rattle.std.specs.Prelude.{◌≡◌, ℕ, zero, suc, ◌+◌, ◌<◌, ◌≤◌, true, List, [], ◌∷◌, ◌++◌, map, length, filter, Option, ◌≢◌, nat_eq, slice_index, slice_index_or}
 use Rattle.std.specs.Option as options
-use Rattle.std.specs.List.{AllByRecursion as All}
+use Rattle.std.specs.List.{AllByRecursion}
 use Rattle.fields.specs.Limits.{highest}
 use Rattle.fields.specs.declared.limits.Field.TheVariants.{Priority}
 use Rattle.buffers.specs.Buffer.{Meaning, of_priority, sendable}
@@ -35,16 +35,16 @@ pub record Next (f : ℕ) (hs : List Held) (at : ℕ) : Type 0 where
   pub parts : hs ≡ front ++ chosen ∷ back
   pub there : length front ≡ at
   pub frame : chosen.frame ≡ f
-  pub before : All (λ h. h.frame ≡ f → chosen.instance.priority < h.instance.priority) front
-  pub after : All (λ h. h.frame ≡ f → chosen.instance.priority ≤ h.instance.priority) back
+  pub before : AllByRecursion (λ h. h.frame ≡ f → chosen.instance.priority < h.instance.priority) front
+  pub after : AllByRecursion (λ h. h.frame ≡ f → chosen.instance.priority ≤ h.instance.priority) back
 
 -- Where the instance stands that is to be sent next for a frame, if any waits for it.
 abbrev pub FindsNext : ℕ → List Held → Option ℕ → Type 0
-FindsNext f hs r = options.MatchOption r (All (λ h. h.frame ≢ f) hs) (Next f hs)
+FindsNext f hs r = options.MatchOption r (AllByRecursion (λ h. h.frame ≢ f) hs) (Next f hs)
 
 -- By frame, the places are those that are free and those in which an instance waits. Only values in range wait, and frame 0 has
 -- no places.
 pub record SoundPool (places free : List ℕ) (hs : List Held) : Type 0 where
   pub counted : (f : ℕ) → slice_index free f + length (pooled hs f) ≡ slice_index places f
-  pub in_range : All (λ h. sendable h.instance ≡ true) hs
+  pub in_range : AllByRecursion (λ h. sendable h.instance ≡ true) hs
   pub spare : slice_index_or places 0 0 ≡ 0

@@ -2,7 +2,7 @@
 use Rattle.std.specs.Prelude.{◌≡◌, ℕ, zero, suc, ◌+◌, ◌<◌, ◌≤◌, true, false, cond, ◌&&◌, List, [], ◌∷◌, ◌++◌, map, length, get_or, Some, None, Ok, Err, vec_items, Option, ◌==◌, ◌≢◌, nat_lt, slice_index_or, slice_set, refl}
 use Rattle.std.proofs.Common.{sym, ap, ◌∙◌, inr, ⊎_elim, arith}
 use Rattle.std.specs.Option as options
-use Rattle.std.specs.List.{AllByRecursion as All}
+use Rattle.std.specs.List.{AllByRecursion}
 use Rattle.std.proofs.lemmas.List.{nil_from_length, get_or-map, get_or_past, get_or_append_left, get_or_push, get_or-set_same, get_or-set_other, length-map, length_push, map-set, map_push}
 use Rattle.std.proofs.lemmas.Bool.{cases_lt, ltb-true, ltb-false, and_parts, eqb-true, eqb-false, eq-eqb, ne_eqb, cond-true, cond-false, cond_both}
 use Rattle.fields.specs.Limits.{Admitted, admitted, highest}
@@ -98,12 +98,12 @@ module _ (qs : List FrameQueue) (f : ℕ) (q q' : FrameQueue) (l : f < length qs
   before : waiting_in qs f ≡ vec_items q.list
   before = read_here (λ x. vec_items x.list) [] qs f q l e
 
-  stays_sound : SoundQueues qs → Ascending upto (vec_items q'.list) → All (λ x. sendable x ≡ true) (vec_items q'.list) → SoundQueues (slice_set qs f q')
+  stays_sound : SoundQueues qs → Ascending upto (vec_items q'.list) → AllByRecursion (λ x. sendable x ≡ true) (vec_items q'.list) → SoundQueues (slice_set qs f q')
   stays_sound sound ordered in_range = record {
     ordered = λ k. rw (read_set (λ x. vec_items x.list) [] qs f q' l k)
         (cond_both (f == k) (vec_items q'.list) (waiting_in qs k) (Ascending upto) (λ _. ordered) (λ _. sound.ordered k));
     in_range = λ k. rw (read_set (λ x. vec_items x.list) [] qs f q' l k)
-        (cond_both (f == k) (vec_items q'.list) (waiting_in qs k) (All (λ x. sendable x ≡ true)) (λ _. in_range) (λ _. sound.in_range k));
+        (cond_both (f == k) (vec_items q'.list) (waiting_in qs k) (AllByRecursion (λ x. sendable x ≡ true)) (λ _. in_range) (λ _. sound.in_range k));
     spare = elsewhere.places 0 ∙ sound.spare;
   }
 

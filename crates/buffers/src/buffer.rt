@@ -1,6 +1,6 @@
 // What every send buffer is.
 ghost use Rattle.std.specs.Prelude.{◌≡◌, ℕ, ◌≤◌, true, ◌&&◌, List, length};
-ghost use Rattle.std.specs.List.{AllByRecursion as All};
+ghost use Rattle.std.specs.List.{AllByRecursion};
 ghost use Rattle.fields.specs.Limits.{Admitted, admitted};
 ghost use Rattle.fields.specs.declared.limits.Field.TheVariants.{Frame};
 ghost use Rattle.fields.specs.declared.refusal.Place.TheVariants as place;
@@ -47,7 +47,7 @@ pub trait SendBuffer {
 
     ghost ordered: { (x : Self) (f : ℕ) → sound x → Ascending upto (waiting x f) };
 
-    ghost ranges: { (x : Self) (f : ℕ) → sound x → All (λ y. sendable y ≡ true) (waiting x f) };
+    ghost ranges: { (x : Self) (f : ℕ) → sound x → AllByRecursion (λ y. sendable y ≡ true) (waiting x f) };
 
     ghost outside: { (x : Self) (f : ℕ) → sound x → (Admitted Frame f → ⊥) → places x f ≡ 0 };
 }

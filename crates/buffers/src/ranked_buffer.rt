@@ -5,7 +5,7 @@ ghost use Rattle.fields.specs.declared.limits.Field.TheVariants.{Frame};
 ghost use Rattle.buffers.specs.Places.{Making, places_given};
 ghost use Rattle.buffers.specs.Queues.{places_in, waiting_in, meaning_of, SoundQueues};
 ghost use Rattle.buffers.specs.QueueTable.{queues_room, none_outside};
-ghost use Rattle.std.proofs.Common.{arith, rules};
+ghost use Rattle.std.proofs.Common.{arith};
 
 use crate::buffer::{SendBuffer, in_range, refused};
 use crate::instance::Instance;
@@ -58,9 +58,9 @@ impl SendBuffer for RankedBuffer {
 
     ghost room = { λ b f sound. queues_room b.queues.items f };
 
-    ghost ordered = { first_of (Prim.search rules, Prim.grind (arith, Self.row.coded.inj)) };
+    ghost ordered = { λ b f sound. sound.ordered f };
 
-    ghost ranges = { first_of (Prim.search rules, Prim.grind (arith, Self.row.coded.inj)) };
+    ghost ranges = { λ b f sound. sound.in_range f };
 
     ghost outside = { λ b f sound out. none_outside b.queues.items f (omega arith) sound out };
 

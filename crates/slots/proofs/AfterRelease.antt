@@ -1,6 +1,6 @@
 -- An accepted release keeps what every run keeps.
 use Rattle.std.proofs.Common.{◌≡◌, ℕ, ◌+◌, ◌≤◌, Bool, true, false, List, [], ◌∷◌, ◌++◌, sym, refl, ap, ◌∙◌, subst, ⊎_elim, arith}
-use Rattle.std.specs.List.{AllByRecursion as All}
+use Rattle.std.specs.List.{AllByRecursion}
 use Rattle.std.proofs.ByRecursion.{All-weaker}
 use Rattle.std.proofs.lemmas.Bool.{leb-true, leb-false, le-leb, cases_eq, eq-eqb, ne_eqb}
 use Rattle.ranked.specs.Ranks.{Placed, Ascending}
@@ -26,23 +26,23 @@ ascends [] o = tt
 ascends (w ∷ ws) o =
     (All-weaker (Before w) (λ v. by_priority w v ≡ true) (λ v h. le-leb w.priority v.priority h.0) ws o.0, ascends ws o.1)
 
-put_in_order : (x : Instance) (front back : List Instance) → All (λ y. Before y x) front → All (Before x) back → Ordered (front ++ back)
+put_in_order : (x : Instance) (front back : List Instance) → AllByRecursion (λ y. Before y x) front → AllByRecursion (Before x) back → Ordered (front ++ back)
     → Ordered (front ++ x ∷ back)
 put_in_order x [] back a c o = (c, o)
 put_in_order x (f ∷ fs) back a c o = (all_put (Before f) x fs back a.0 o.0, put_in_order x fs back a.1 c o.1)
 
-pub placed_in_order : (x : Instance) (old new : List Instance) → Placed by_priority x old new → All (λ y. y.release ≤ x.release) old
+pub placed_in_order : (x : Instance) (old new : List Instance) → Placed by_priority x old new → AllByRecursion (λ y. y.release ≤ x.release) old
     → Ordered old → Ordered new
 placed_in_order x old new p before o =
     let parts : Ordered (p.front ++ p.back) = rw p.parts at o in
-    let times' : All (λ y. y.release ≤ x.release) (p.front ++ p.back) = rw p.parts at before in
+    let times' : AllByRecursion (λ y. y.release ≤ x.release) (p.front ++ p.back) = rw p.parts at before in
     rw p.put (put_in_order x p.front p.back
     (both p.front p.behind (all_front (λ y. y.release ≤ x.release) p.front p.back times'))
     (All-weaker (λ y. by_priority y x ≡ false) (Before x)
     (λ y f. let less = leb-false y.priority x.priority f in (omega arith, λ same. absurd (omega arith))) p.back (p.before (ascends old o)))
     parts)
   where
-    both : (ys : List Instance) → All (λ y. by_priority y x ≡ true) ys → All (λ y. y.release ≤ x.release) ys → All (λ y. Before y x) ys
+    both : (ys : List Instance) → AllByRecursion (λ y. by_priority y x ≡ true) ys → AllByRecursion (λ y. y.release ≤ x.release) ys → AllByRecursion (λ y. Before y x) ys
     both [] a c = tt
     both (y ∷ ys) a c = ((leb-true y.priority x.priority a.0, λ _. c.0), both ys a.1 c.1)
 
@@ -104,11 +104,11 @@ module _ (bus : Bus) (rows : List Row) (b : Book) (lawful : Lawful b) (from : St
       ⊎_elim (λ (e : f ≡ i.entry.frame). subst (λ y. P y (waiting y)) (sym e) here) (λ (e : f ≡ i.entry.frame → ⊥). rw (others f e) (old f))
       (cases_eq f i.entry.frame)
 
-  old_waits : (f : ℕ) → All (Waits bus rows b next k.sendings f) (s.waiting f)
+  old_waits : (f : ℕ) → AllByRecursion (Waits bus rows b next k.sendings f) (s.waiting f)
   old_waits f = All-weaker (Waits bus rows b s k.sendings f) (Waits bus rows b next k.sendings f) (still f) (s.waiting f) (k.waits f)
 
-  waits : (f : ℕ) → All (Waits bus rows b next k.sendings f) (waiting f)
-  waits = each_frame (λ f ws. All (Waits bus rows b next k.sendings f) ws) old_waits
+  waits : (f : ℕ) → AllByRecursion (Waits bus rows b next k.sendings f) (waiting f)
+  waits = each_frame (λ f ws. AllByRecursion (Waits bus rows b next k.sendings f) ws) old_waits
       (rw placed.put (all_put (Waits bus rows b next k.sendings i.entry.frame) (instance_of i t) placed.front placed.back new
       (rw placed.parts at (old_waits i.entry.frame))))
 

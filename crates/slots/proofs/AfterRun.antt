@@ -1,6 +1,6 @@
 -- A slot run keeps what every run keeps.
 use Rattle.std.proofs.Common.{◌≡◌, ℕ, ◌+◌, ◌-◌, ◌*◌, ◌<◌, ◌≤◌, Bool, true, false, cond, eqb, ◌⊎◌, List, [], ◌∷◌, Some, sym, refl, ap, ◌∙◌, subst, inl, inr, ⊎_elim, arith}
-use Rattle.std.specs.List.{AllByRecursion as All}
+use Rattle.std.specs.List.{AllByRecursion}
 use Rattle.std.proofs.ByRecursion.{All-weaker}
 use Rattle.std.proofs.lemmas.Bool.{ltb-true, lt-ltb, le-ltb, leb-false, cases_eq, cases_lt, eq-eqb, and_from, and_right}
 use Rattle.books.specs.Book.{Book, Release, Lawful, tally}
@@ -108,13 +108,13 @@ module _ (bus : Bus) (rows : List Row) (b : Book) (lawful : Lawful b) (from : St
         blocked = λ c p l. blocked_or_here h.row h.planned c p (λ old. h.blocked c old l) (λ frame cycle. here frame c cycle);
       }
 
-      keeps : All (Gone bus rows b (next n waiting)) ys → ((f : ℕ) → All (Waits bus rows b (next n waiting) ys f) (waiting f))
+      keeps : AllByRecursion (Gone bus rows b (next n waiting)) ys → ((f : ℕ) → AllByRecursion (Waits bus rows b (next n waiting) ys f) (waiting f))
           → ((f : ℕ) → Ordered (waiting f))
           → (sent : List Sent)
           → ((p : Release → Bool) → tally p rs ≡ tally (λ x. p (of_sending x)) ys
           + over_frames (λ f. tally (λ w. p (of_instance w)) (waiting f)) last_frame)
           → ((p : Release → Bool) → tally (λ x. p (of_sent x)) sent ≡ tally (λ x. p (of_sending x)) ys)
-          → All (λ x. InTime rows x.message x.release x.finish) sent → Keeps bus rows b from.book rs sent (next n waiting)
+          → AllByRecursion (λ x. InTime rows x.message x.release x.finish) sent → Keeps bus rows b from.book rs sent (next n waiting)
       keeps gone waits ordered sent counted reports timely = record {
         sendings = ys;
         gone = gone;
@@ -136,7 +136,7 @@ module _ (bus : Bus) (rows : List Row) (b : Book) (lawful : Lawful b) (from : St
         timely = timely;
       }
 
-  known : All (λ x. (x.cycle ≤ s.position.cycle) × (x.cycle ≡ s.position.cycle → x.row.entry.frame ≤ s.position.slot)) k.sendings
+  known : AllByRecursion (λ x. (x.cycle ≤ s.position.cycle) × (x.cycle ≡ s.position.cycle → x.row.entry.frame ≤ s.position.slot)) k.sendings
   known =
       All-weaker (Gone bus rows b s) (λ x. (x.cycle ≤ s.position.cycle)
       × (x.cycle ≡ s.position.cycle → x.row.entry.frame ≤ s.position.slot))
@@ -237,13 +237,13 @@ module _ (bus : Bus) (rows : List Row) (b : Book) (lawful : Lawful b) (from : St
         number_released : (z : Sending) → z ≡ y → x.release ≤ w.release → z.release ≤ w.release
         number_released z e l = omega (arith, ap (λ q. q.release) e)
 
-    ordered_list : All (Before x) rest × Ordered rest
+    ordered_list : AllByRecursion (Before x) rest × Ordered rest
     ordered_list = let o : Ordered (x ∷ rest) = rw first at (k.ordered s.position.slot) in o
 
-    waits : (f : ℕ) → All (Waits bus rows b (next size waiting) (y ∷ k.sendings) f) (waiting f)
+    waits : (f : ℕ) → AllByRecursion (Waits bus rows b (next size waiting) (y ∷ k.sendings) f) (waiting f)
     waits f =
         ⊎_elim
-        (λ (e : f ≡ s.position.slot). subst (λ q. All (Waits bus rows b (next size waiting) (y ∷ k.sendings) q) (waiting q)) (sym e)
+        (λ (e : f ≡ s.position.slot). subst (λ q. AllByRecursion (Waits bus rows b (next size waiting) (y ∷ k.sendings) q) (waiting q)) (sym e)
         (rw frame (all_each (Waits bus rows b (next size waiting) (y ∷ k.sendings) s.position.slot) rest
         (λ w m. goes_on s.position.slot w (subst (λ ws. In w ws) (sym first) (inr m)) (λ _. all_in (Before x) rest w ordered_list.0 m)))))
         (λ (e : f ≡ s.position.slot → ⊥). rw (others f e)

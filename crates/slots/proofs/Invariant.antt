@@ -1,6 +1,6 @@
 -- What every run keeps, over the accepted releases, what was sent and the state reached.
 use Rattle.std.proofs.Common.{◌≡◌, ℕ, ◌+◌, ◌*◌, ◌<◌, ◌≤◌, Bool, true, ◌⊎◌, List, [], ◌∷◌, Some, None, Option}
-use Rattle.std.specs.List.{AllByRecursion as All}
+use Rattle.std.specs.List.{AllByRecursion}
 use Rattle.books.specs.Book.{Book, Release, Accepted, tally}
 use Rattle.buffers.specs.declared.instance.Instance.{Instance}
 use Rattle.delay.specs.Delay.{room}
@@ -45,7 +45,7 @@ Before x y = (x.priority ≤ y.priority) × (x.priority ≡ y.priority → x.rel
 
 abbrev pub Ordered : List Instance → Type 0
 Ordered [] = Unit {0}
-Ordered (x ∷ xs) = All (Before x) xs × Ordered xs
+Ordered (x ∷ xs) = AllByRecursion (Before x) xs × Ordered xs
 
 -- A sending that lies behind the state.
 pub record Gone (bus : Bus) (rows : List Row) (b : Book) (s : State b) (x : Sending) : Type 0 where
@@ -80,8 +80,8 @@ Due (Some u) rest e = e ≤ u + rest
 
 pub record Keeps (bus : Bus) (rows : List Row) (b : Book) (from : b.State) (released : List Release) (sent : List Sent) (s : State b) : Type 0 where
   pub sendings : List Sending
-  pub gone : All (Gone bus rows b s) sendings
-  pub waits : (f : ℕ) → All (Waits bus rows b s sendings f) (s.waiting f)
+  pub gone : AllByRecursion (Gone bus rows b s) sendings
+  pub waits : (f : ℕ) → AllByRecursion (Waits bus rows b s sendings f) (s.waiting f)
   pub ordered : (f : ℕ) → Ordered (s.waiting f)
   -- the position: slots shift by what was sent in this cycle
   pub first_slot : 1 ≤ s.position.slot
@@ -102,4 +102,4 @@ pub record Keeps (bus : Bus) (rows : List Row) (b : Book) (from : b.State) (rele
   pub counted : (p : Release → Bool) → tally p released ≡ tally (λ x. p (of_sending x)) sendings
       + over_frames (λ f. tally (λ w. p (of_instance w)) (s.waiting f)) last_frame
   pub reports : (p : Release → Bool) → tally (λ x. p (of_sent x)) sent ≡ tally (λ x. p (of_sending x)) sendings
-  pub timely : All (λ x. InTime rows x.message x.release x.finish) sent
+  pub timely : AllByRecursion (λ x. InTime rows x.message x.release x.finish) sent

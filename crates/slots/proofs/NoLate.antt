@@ -1,6 +1,6 @@
 -- No release that waits is late, whenever it were sent now.
 use Rattle.std.proofs.Common.{◌≡◌, ℕ, ◌+◌, ◌-◌, ◌*◌, ◌<◌, ◌≤◌, Bool, true, false, cond, eqb, List, refl, ap, inl, inr, ⊎_elim, mul-le-mul_left, arith}
-use Rattle.std.specs.List.{AllByRecursion as All}
+use Rattle.std.specs.List.{AllByRecursion}
 use Rattle.std.proofs.lemmas.Bool.{cases_lt, eqb-true, and_parts, lt-ltb}
 use Rattle.books.specs.Book.{Book, Release, Lawful, tally}
 use Rattle.buffers.specs.declared.instance.Instance.{Instance}
@@ -27,7 +27,7 @@ one_filled i c x h = step (eqb x.cycle c) refl
     step true e = let low : lower i.entry x.row ≡ true = lt-ltb _ _ (h (eqb-true _ _ e)) in rw low (omega arith)
     step false e = omega arith
 
-pub filled_load : (i : Row) (c : ℕ) (xs : List Sending) → All (λ x. x.cycle ≡ c → x.row.entry.frame < i.entry.frame) xs
+pub filled_load : (i : Row) (c : ℕ) (xs : List Sending) → AllByRecursion (λ x. x.cycle ≡ c → x.row.entry.frame < i.entry.frame) xs
     → filled c xs ≤ load i c xs
 filled_load i c xs all =
     total_all (λ x. x.cycle ≡ c → x.row.entry.frame < i.entry.frame) _ _ xs all (λ x h. one_filled i c x h)

@@ -1,6 +1,6 @@
 -- The position after a slot, and the slots that lie behind it then.
 use Rattle.std.proofs.Common.{◌≡◌, ℕ, ◌+◌, ◌<◌, ◌≤◌, ltb, ◌⊎◌, List, [], ◌∷◌, refl, inl, inr, ⊎_elim, arith}
-use Rattle.std.specs.List.{AllByRecursion as All}
+use Rattle.std.specs.List.{AllByRecursion}
 use Rattle.std.proofs.ByRecursion.{All-weaker}
 use Rattle.std.proofs.lemmas.Bool.{cond_both, ltb-true, ltb-false, cases_lt, ne_eqb}
 use Rattle.delay.specs.Delay.{room}
@@ -14,7 +14,7 @@ use Rattle.slots.proofs.Weights.{Sending, load, filled}
 use Rattle.slots.proofs.NoLate.{filled_load}
 use Rattle.slots.proofs.Invariant.{Passed}
 
-pub filled_none : (c : ℕ) (xs : List Sending) → All (λ x. x.cycle < c) xs → filled c xs ≡ 0
+pub filled_none : (c : ℕ) (xs : List Sending) → AllByRecursion (λ x. x.cycle < c) xs → filled c xs ≡ 0
 filled_none c [] all = refl
 filled_none c (x ∷ xs) all = let other = ne_eqb x.cycle c (λ e. omega (arith, all.0)) in rw other (omega (arith, filled_none c xs all.1))
 
@@ -77,7 +77,7 @@ module _ (bus : Bus) (p : Position) (n : ℕ) (some : 1 ≤ n) (first_slot : 1 �
   pub record Grown (xs ys : List Sending) : Type 0 where
     pub more : (i : Row) (k : ℕ) → load i k xs ≤ load i k ys
     pub fills : filled p.cycle ys + 1 ≡ filled p.cycle xs + n
-    pub known : All (λ x. (x.cycle ≤ p.cycle) × (x.cycle ≡ p.cycle → x.row.entry.frame ≤ p.slot)) ys
+    pub known : AllByRecursion (λ x. (x.cycle ≤ p.cycle) × (x.cycle ≡ p.cycle → x.row.entry.frame ≤ p.slot)) ys
 
   pub shifted_on : (xs ys : List Sending) → Grown xs ys → p.minislot ≡ p.slot + filled p.cycle xs
       → (onward bus p n).minislot ≡ (onward bus p n).slot + filled (onward bus p n).cycle ys

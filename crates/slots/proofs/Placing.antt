@@ -1,6 +1,6 @@
 -- An instance has just one place in the sending order.
 use Rattle.std.proofs.Common.{◌≡◌, ℕ, ◌+◌, true, false, List, [], ◌∷◌, ◌++◌, length, sym, refl, ap, ◌∙◌, subst, ⊎_elim, arith}
-use Rattle.std.specs.List.{AllByRecursion as All}
+use Rattle.std.specs.List.{AllByRecursion}
 use Rattle.std.proofs.ByRecursion.{All-weaker}
 use Rattle.std.proofs.lemmas.Bool.{cases_Bool, both_ways, leb-true, leb-false, lt-leb}
 use Rattle.ranked.specs.Ranks.{Placed}
@@ -61,7 +61,7 @@ place x (w ∷ ws) =
     (cases_Bool (by_priority w x))
 
 -- two ways to cut a list, each at the first that comes behind x
-cut_once : (x : Instance) (f g c d : List Instance) → f ++ c ≡ g ++ d → All (λ y. by_priority y x ≡ true) f → All (λ y. by_priority y x ≡ true) g
+cut_once : (x : Instance) (f g c d : List Instance) → f ++ c ≡ g ++ d → AllByRecursion (λ y. by_priority y x ≡ true) f → AllByRecursion (λ y. by_priority y x ≡ true) g
     → ((y : Instance) (ys : List Instance) → c ≡ y ∷ ys → by_priority y x ≡ false)
     → ((y : Instance) (ys : List Instance) → d ≡ y ∷ ys → by_priority y x ≡ false)
     → f ++ x ∷ c ≡ g ++ x ∷ d

@@ -1,6 +1,6 @@
 -- No more wait for a frame than it needs places.
 use Rattle.std.proofs.Common.{◌≡◌, ℕ, ◌+◌, ◌≤◌, Bool, true, false, cond, eqb, List, [], ◌∷◌, length, refl, arith}
-use Rattle.std.specs.List.{AllByRecursion as All}
+use Rattle.std.specs.List.{AllByRecursion}
 use Rattle.std.proofs.lemmas.Bool.{eqb-true, eq-eqb}
 use Rattle.books.specs.Book.{Book, Release, Lawful, tally}
 use Rattle.buffers.specs.declared.instance.Instance.{Instance}
@@ -32,7 +32,7 @@ one_more_held : (a : Bool) (x y : ℕ) → cond a (x + 0) 0 + cond a y 0 ≤ con
 one_more_held true x y = omega arith
 one_more_held false x y = omega arith
 
-all_held : (rows : List Row) (f e : ℕ) (ws : List Instance) → All (Held rows f e) ws → length ws ≤ total (held f e ws) rows
+all_held : (rows : List Row) (f e : ℕ) (ws : List Instance) → AllByRecursion (Held rows f e) ws → length ws ≤ total (held f e ws) rows
 all_held rows f e [] all = omega arith
 all_held rows f e (w ∷ ws) all =
     let h = all.0 in

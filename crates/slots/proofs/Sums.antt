@@ -1,6 +1,6 @@
 -- Sums and tallies over lists, and what stands in a list.
 use Rattle.std.proofs.Common.{◌≡◌, ℕ, zero, suc, ◌+◌, ◌*◌, ◌<◌, ◌≤◌, Bool, true, false, cond, List, [], ◌∷◌, ◌++◌, length, get_or, drop, Some, None, Option, sym, refl, ap, ◌∙◌, subst, inl, inr, ⊎_elim, arith}
-use Rattle.std.specs.List.{AllByRecursion as All}
+use Rattle.std.specs.List.{AllByRecursion}
 use Rattle.std.proofs.lemmas.List.{at_drop_more, at_drop_all}
 use Rattle.std.proofs.lemmas.Bool.{cases_eq, cases_Bool}
 use Rattle.books.specs.Book.{tally}
@@ -9,21 +9,21 @@ use Rattle.slots.specs.Rows.{In, first}
 use Rattle.slots.specs.Runs.{over_frames}
 
 -- what holds of all holds of each, and the other way round
-pub all_in : {X : Type 0} (P : X → Type 0) (xs : List X) (x : X) → All P xs → In x xs → P x
+pub all_in : {X : Type 0} (P : X → Type 0) (xs : List X) (x : X) → AllByRecursion P xs → In x xs → P x
 all_in P [] x all m = absurd m
 all_in P (y ∷ ys) x all (inl e) = subst P (sym e) all.0
 all_in P (y ∷ ys) x all (inr m) = all_in P ys x all.1 m
 
-pub all_each : {X : Type 0} (P : X → Type 0) (xs : List X) → ((x : X) → In x xs → P x) → All P xs
+pub all_each : {X : Type 0} (P : X → Type 0) (xs : List X) → ((x : X) → In x xs → P x) → AllByRecursion P xs
 all_each P [] h = tt
 all_each P (x ∷ xs) h = (h x (inl refl), all_each P xs (λ y m. h y (inr m)))
 
 -- one put in between
-pub all_put : {X : Type 0} (P : X → Type 0) (x : X) (front back : List X) → P x → All P (front ++ back) → All P (front ++ x ∷ back)
+pub all_put : {X : Type 0} (P : X → Type 0) (x : X) (front back : List X) → P x → AllByRecursion P (front ++ back) → AllByRecursion P (front ++ x ∷ back)
 all_put P x [] back p all = (p, all)
 all_put P x (f ∷ fs) back p all = (all.0, all_put P x fs back p all.1)
 
-pub all_front : {X : Type 0} (P : X → Type 0) (front back : List X) → All P (front ++ back) → All P front
+pub all_front : {X : Type 0} (P : X → Type 0) (front back : List X) → AllByRecursion P (front ++ back) → AllByRecursion P front
 all_front P [] back all = tt
 all_front P (f ∷ fs) back all = (all.0, all_front P fs back all.1)
 
@@ -46,7 +46,7 @@ pub total_mono : {X : Type 0} (f g : X → ℕ) (xs : List X) → ((x : X) → I
 total_mono f g [] h = omega arith
 total_mono f g (x ∷ xs) h = omega (arith, h x (inl refl), total_mono f g xs (λ y m. h y (inr m)))
 
-pub total_all : {X : Type 0} (P : X → Type 0) (f g : X → ℕ) (xs : List X) → All P xs → ((x : X) → P x → f x ≤ g x) → total f xs ≤ total g xs
+pub total_all : {X : Type 0} (P : X → Type 0) (f g : X → ℕ) (xs : List X) → AllByRecursion P xs → ((x : X) → P x → f x ≤ g x) → total f xs ≤ total g xs
 total_all P f g [] all h = omega arith
 total_all P f g (x ∷ xs) all h = omega (arith, h x all.0, total_all P f g xs all.1 h)
 

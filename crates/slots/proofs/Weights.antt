@@ -1,6 +1,6 @@
 -- What a sending takes from a message that waits, and how much sendings can take together.
 use Rattle.std.proofs.Common.{◌≡◌, ℕ, zero, suc, ◌+◌, ◌-◌, ◌*◌, ◌<◌, ◌≤◌, Bool, true, false, cond, eqb, leb, List, [], ◌∷◌, refl, mul-add, arith}
-use Rattle.std.specs.List.{AllByRecursion as All}
+use Rattle.std.specs.List.{AllByRecursion}
 use Rattle.std.proofs.lemmas.Bool.{cond_both, le-leb, lt-ltb, eq-eqb, and_from, eqb-true, leb-true}
 use Rattle.std.proofs.lemmas.Bool.Decides.{nat_tests}
 use Rattle.books.specs.Book.{Release, tally, within}
@@ -118,7 +118,7 @@ module _ (bus : Bus) (rows : List Row) (i : Row) (r : ℕ) where
       rw here (omega arith))
 
   -- What sendings from a cycle on take from the release, by the row of each.
-  pub all_weights : (k : ℕ) (xs : List Sending) → All (λ x. k ≤ x.cycle → Blocks bus rows i r x) xs
+  pub all_weights : (k : ℕ) (xs : List Sending) → AllByRecursion (λ x. k ≤ x.cycle → Blocks bus rows i r x) xs
       → since i k xs ≤ total (λ j. share i j * tally (λ x. blocks bus i r j (of_sending x)) xs) rows + room i.entry * tally
       (λ x. own i r (of_sending x)) xs
   all_weights k [] all = omega arith

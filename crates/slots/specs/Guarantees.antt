@@ -1,6 +1,6 @@
 -- What holds of every run: no release is lost or late, a rested one is accepted, and there is always room for it.
 use Rattle.std.specs.Prelude.{◌≡◌, ℕ, ◌+◌, ◌<◌, ◌≤◌, true, List, length, is_some, Some, None, Ok, Err, Option}
-use Rattle.std.specs.List.{AllByRecursion as All}
+use Rattle.std.specs.List.{AllByRecursion}
 use Rattle.fields.specs.Limits.{Admitted}
 use Rattle.fields.specs.Refusals.{first_of}
 use Rattle.fields.specs.declared.limits.Field.TheVariants.{Time}
@@ -35,9 +35,9 @@ pub record Guarantee (bus : Bus) (rows : List Row) (b : Book) (from s : State b)
   -- each accepted release was sent or waits, and just once
   pub each_once : (m t : ℕ) → accepted_of m t xs ≡ sent_of m t xs + waiting_of m t s.waiting
   -- nothing was sent late: every transmission ended within the delay of its message
-  pub none_late : All (λ x. InTime rows x.message x.release x.finish) (sent xs)
+  pub none_late : AllByRecursion (λ x. InTime rows x.message x.release x.finish) (sent xs)
   -- nothing that waits is overdue
-  pub none_overdue : (f : ℕ) → All (λ w. InTime rows w.message w.release (clock bus s.position)) (s.waiting f)
+  pub none_overdue : (f : ℕ) → AllByRecursion (λ w. InTime rows w.message w.release (clock bus s.position)) (s.waiting f)
   -- a rested release of a planned message, at a time that the clock allows, is accepted
   pub rested : (m t : ℕ) → is_some (row_of rows m) ≡ true → allowed bus s.position s.released s.started t ≡ true
       → Rested (last_of m (accepted xs)) (b.rest from.book m) t
@@ -57,7 +57,7 @@ pub record InOrder (bus : Bus) (rows : List Row) (b : Book) (from s : State b) :
   pub minislot : s.position.minislot ≤ bus.minislots
   pub cycle : s.position.cycle ≤ cycles
   pub clock_range : Admitted Time (clock bus s.position)
-  pub of_frame : (f : ℕ) → All (OfFrame rows f) (s.waiting f)
+  pub of_frame : (f : ℕ) → AllByRecursion (OfFrame rows f) (s.waiting f)
   pub ascending : (f : ℕ) → Ascending by_priority (s.waiting f)
   pub sound : b.Sound s.book
   pub listed : (m : ℕ) → is_some (row_of rows m) ≡ true → b.lists s.book m ≡ true

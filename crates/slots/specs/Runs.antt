@@ -9,7 +9,6 @@ use Rattle.delay.specs.declared.bus.Bus.{Bus}
 use Rattle.delay.specs.declared.entry.Row.{Row}
 use Rattle.slots.specs.States.{State}
 use Rattle.slots.specs.Steps.{Step}
-use Rattle.slots.specs.declared.position.Position.{Position}
 use Rattle.slots.specs.declared.calls.Call.{Call}
 use Rattle.slots.specs.declared.calls.Call.TheVariants as call
 use Rattle.slots.specs.declared.calls.Sent.{Sent}

@@ -3,8 +3,8 @@ ghost use Rattle.std.specs.Prelude.{◌≡◌, ◌^◌, ◌<◌, ◌≤◌};
 ghost use Rattle.fields.specs.Refusals.{Verdict};
 ghost use Rattle.fields.specs.declared.refusal.Place.TheVariants as place;
 ghost use Rattle.slots.specs.Rows.{row_of, size_of, last_start_of};
-ghost use Rattle.slots.specs.States.{clock as clockOf, allowed};
-ghost use Rattle.slots.specs.Steps.{cycles, run_checks, used as usedBy, sent_from, onward as onwardFrom};
+ghost use Rattle.slots.specs.States.{clock as clock_of, allowed};
+ghost use Rattle.slots.specs.Steps.{cycles, run_checks, used as used_by, sent_from, onward as onward_from};
 ghost use Rattle.slots.specs.Guarantees.{DelaysHold, OneAnswer};
 
 use crate::calls::{Sent, SlotReport};
@@ -34,7 +34,7 @@ pub fn first_position<B: ReleaseBook>(_book: &B) -> Position
 
 // The time at which the next slot of a position begins.
 pub fn clock(bus: &Bus, position: &Position) -> u64
-    ensures value { result ≡ clockOf bus.now position.now }
+    ensures value { result ≡ clock_of bus.now position.now }
     ensures bound { result < 2 ^ 47 }
 {
     u64::from(position.cycle) * u64::from(bus.cycle)
@@ -81,7 +81,7 @@ pub fn may_run(position: &Position) -> Result<(), Refusal>
 
 // The position after a slot that took so many minislots: the next slot, or the next cycle where the segment is over.
 pub fn onward(bus: &Bus, position: Position, used: u16) -> Position
-    ensures { position.cycle ≤ cycles → position.slot ≤ bus.now.minislots → result ≡ onwardFrom bus.now position used }
+    ensures { position.cycle ≤ cycles → position.slot ≤ bus.now.minislots → result ≡ onward_from bus.now position used }
 {
     let end = u32::from(position.minislot) + u32::from(used);
     if end > u32::from(bus.minislots) {
@@ -123,7 +123,7 @@ pub fn size_of(rows: &[Row], message: u16) -> u16
 
 // The minislots that a slot takes: the size of what it sends, or the one of an empty slot.
 pub fn used(rows: &[Row], sends: Option<Instance>) -> u16
-    ensures { result ≡ usedBy rows.now sends }
+    ensures { result ≡ used_by rows.now sends }
 {
     match sends {
         Some(x) => size_of(rows, x.message),
@@ -140,8 +140,8 @@ pub fn report_of(
 ) -> SlotReport
     ensures cycle { result.cycle ≡ position.now.cycle }
     ensures slot { result.slot ≡ position.now.slot }
-    ensures start { result.start ≡ clockOf bus.now position.now }
-    ensures sent { result.sent ≡ sent_from bus.now rows.now (clockOf bus.now position.now) sends }
+    ensures start { result.start ≡ clock_of bus.now position.now }
+    ensures sent { result.sent ≡ sent_from bus.now rows.now (clock_of bus.now position.now) sends }
 {
     let start = clock(bus, position);
     let sent = match sends {

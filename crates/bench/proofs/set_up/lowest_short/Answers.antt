@@ -1,4 +1,4 @@
-use Rattle.std.proofs.Common.{◌≡◌, arith}
+use Rattle.std.proofs.Common.{arith}
 use Rattle.std.proofs.lemmas.Bool.{lt-ltb, le-ltb}
 use Rattle.fields.specs.declared.limits.Field.TheVariants.{Frame}
 use Rattle.buffers.specs.Buffer.{meant}
@@ -6,14 +6,14 @@ use Rattle.bench.specs.SetUps.{too_few}
 use Rattle.bench.proofs.Searches.{none_so_far, none_at_all}
 use Rattle.bench.proofs.set_up.lowest_short.Goals as goal
 
-pub returns-then-from-needs-of : goal.returns-then-from-needs-of
-returns-then-from-needs-of g c = λ listed sound. record {
+pub returns-then-from-needs_of : goal.returns-then-from-needs_of
+returns-then-from-needs_of g c = λ listed sound. record {
   within = (
-    omega (arith, c.loop-number.auto.number, c.limits-of-limits.ensures.low),
+    omega (arith, c.loop-number.auto.number, c.limits_of-limits.ensures.low),
     omega
-        (arith, c.loop-number-test.true, c.limits-of-limits.ensures.high),
+        (arith, c.loop-number-test.true, c.limits_of-limits.ensures.high),
   );
-  here = lt-ltb _ _ (omega (arith, c.if-from-needs-of.true, c.from.ensures, c.places-of.ensures sound, c.needs-of.ensures listed));
+  here = lt-ltb _ _ (omega (arith, c.if-from-needs_of.true, c.from.ensures, c.places_of.ensures sound, c.needs_of.ensures listed));
   below = c.loop-number.invariant listed sound;
 }
 
@@ -23,7 +23,7 @@ loop-number-preserved g c =
     let s = g.B.ReleaseBook.meaning c.args.book.now in
     let m = meant g.S.SendBuffer.places g.S.SendBuffer.waiting c.args.buffer.now in
     λ listed sound. none_so_far Frame (too_few b s c.args.rows.now m) c.loop-number.number (c.loop-number.invariant listed sound)
-    (le-ltb _ _ (omega (arith, c.if-from-needs-of.false, c.from.ensures, c.places-of.ensures sound, c.needs-of.ensures listed)))
+    (le-ltb _ _ (omega (arith, c.if-from-needs_of.false, c.from.ensures, c.places_of.ensures sound, c.needs_of.ensures listed)))
 
 pub returns : goal.returns
 returns g c =
@@ -31,4 +31,4 @@ returns g c =
     let s = g.B.ReleaseBook.meaning c.args.book.now in
     let m = meant g.S.SendBuffer.places g.S.SendBuffer.waiting c.args.buffer.now in
     λ listed sound. none_at_all Frame (too_few b s c.args.rows.now m) c.loop-number.number
-    (omega (arith, c.loop-number-test.false, c.limits-of-limits.ensures.high)) (c.loop-number.invariant listed sound)
+    (omega (arith, c.loop-number-test.false, c.limits_of-limits.ensures.high)) (c.loop-number.invariant listed sound)

@@ -1,4 +1,3 @@
-use Rattle.std.proofs.Common.{◌≡◌, ℕ, ◌<◌, false}
 use Rattle.fields.specs.declared.limits.Field.TheVariants.{Frame}
 use Rattle.buffers.specs.Buffer.{meant}
 use Rattle.bench.specs.SetUps.{NoneBelow, too_few, AllListed}

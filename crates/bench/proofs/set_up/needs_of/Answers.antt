@@ -1,4 +1,4 @@
-use Rattle.std.proofs.Common.{◌≡◌, ℕ, Bool, true, cond, eqb, ap, ◌∙◌, arith, take_all}
+use Rattle.std.proofs.Common.{ℕ, cond, eqb, ap, ◌∙◌, arith, take_all}
 use Rattle.delay.specs.Delay.{total, ListedRow}
 use Rattle.delay.specs.declared.entry.Row.{Row}
 use Rattle.delay.proofs.Sums.{total_step, all_read}
@@ -17,12 +17,12 @@ loop-row-preserved g c =
     let i = c.loop-row.row-index in
     let x = c.row-item.result in (
       omega (arith, c.loop-row-test.true),
-      λ listed. total_step (share (b.count s) c.args.frame) rows i x c.loop-row.total c.from-total.result c.need-of.result
+      λ listed. total_step (share (b.count s) c.args.frame) rows i x c.loop-row.total c.from-total.result c.need_of.result
           c.loop-row-test.true c.row-item.is
           (c.loop-row.invariant.1 listed) c.from-total.ensures
-          (c.need-of.ensures (all_read (ListedRow (b.lists s)) rows i x c.loop-row-test.true c.row-item.is
+          (c.need_of.ensures (all_read (ListedRow (b.lists s)) rows i x c.loop-row-test.true c.row-item.is
           (all_each (ListedRow (b.lists s)) rows listed))),
-      omega (arith, c.loop-row.invariant.2, c.from-total.ensures, c.need-of.type-inv),
+      omega (arith, c.loop-row.invariant.2, c.from-total.ensures, c.need_of.type_inv),
     )
 
 pub returns : goal.returns

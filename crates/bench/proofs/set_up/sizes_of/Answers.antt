@@ -5,14 +5,14 @@ use Rattle.slots.specs.Rows.{size_of}
 use Rattle.bench.proofs.set_up.sizes_of.Goals as goal
 
 pub loop-message-init : goal.loop-message-init
-loop-message-init c = let made = c.in-ok-sizes.ensures in (made.len, made.capacity, made.items)
+loop-message-init c = let made = c.in_ok-sizes.ensures in (made.len, made.capacity, made.items)
 
 pub loop-message-preserved : goal.loop-message-preserved
 loop-message-preserved c =
     let more = map-range_with_len_more (size_of c.args.rows.now) 0 c.loop-message.message c.loop-message.message (omega arith) in (
-      omega (arith, c.push-reserved.ensures.len),
-      omega (arith, c.push-reserved.ensures.capacity),
-      c.push-reserved.ensures.items ∙ ap₂ (λ l x. l ++ x ∷ []) c.loop-message.invariant.2 c.size-of.ensures ∙ sym more,
+      omega (arith, c.push_reserved.ensures.len),
+      omega (arith, c.push_reserved.ensures.capacity),
+      c.push_reserved.ensures.items ∙ ap₂ (λ l x. l ++ x ∷ []) c.loop-message.invariant.2 c.size_of.ensures ∙ sym more,
     )
 
 pub returns : goal.returns

@@ -5,14 +5,14 @@ use Rattle.slots.specs.Rows.{last_start_of}
 use Rattle.bench.proofs.set_up.starts_of.Goals as goal
 
 pub loop-frame-init : goal.loop-frame-init
-loop-frame-init c = let made = c.in-ok-starts.ensures in (made.len, made.capacity, made.items)
+loop-frame-init c = let made = c.in_ok-starts.ensures in (made.len, made.capacity, made.items)
 
 pub loop-frame-preserved : goal.loop-frame-preserved
 loop-frame-preserved c =
     let more = map-range_with_len_more (last_start_of c.args.rows.now) 0 c.loop-frame.frame c.loop-frame.frame (omega arith) in (
-      omega (arith, c.push-reserved.ensures.len),
-      omega (arith, c.push-reserved.ensures.capacity),
-      c.push-reserved.ensures.items ∙ ap₂ (λ l x. l ++ x ∷ []) c.loop-frame.invariant.2 c.last-start.ensures ∙ sym more,
+      omega (arith, c.push_reserved.ensures.len),
+      omega (arith, c.push_reserved.ensures.capacity),
+      c.push_reserved.ensures.items ∙ ap₂ (λ l x. l ++ x ∷ []) c.loop-frame.invariant.2 c.last_start.ensures ∙ sym more,
     )
 
 pub returns : goal.returns

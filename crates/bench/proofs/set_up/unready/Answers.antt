@@ -1,18 +1,18 @@
-use Rattle.std.proofs.Common.{◌≡◌, refl}
-use Rattle.bench.specs.SetUps.{Ready, RefusedAs, Unready}
+use Rattle.std.proofs.Common.{refl}
+use Rattle.bench.specs.SetUps.{Unready}
 use Rattle.bench.proofs.set_up.unready.Goals as goal
 
 pub returns-in-Some : goal.returns-in-Some
 returns-in-Some g c = λ listed sound. rw c.refused.ensures (record { place = refl; why = Unready.few (c.in-Some.ensures listed sound) })
 
-pub returns-in-Some-lowest-waiting : goal.returns-in-Some-lowest-waiting
-returns-in-Some-lowest-waiting g c = λ listed sound. rw c.refused-in-Some-lowest-waiting.ensures
-    (record { place = refl; why = Unready.waiting (c.in-default.ensures listed sound) (c.in-Some-lowest-waiting.ensures sound) })
+pub returns-in-Some-lowest_waiting : goal.returns-in-Some-lowest_waiting
+returns-in-Some-lowest_waiting g c = λ listed sound. rw c.refused-in-Some-lowest_waiting.ensures
+    (record { place = refl; why = Unready.waiting (c.in_default.ensures listed sound) (c.in-Some-lowest_waiting.ensures sound) })
 
-pub returns-in-Some-lowest-early : goal.returns-in-Some-lowest-early
-returns-in-Some-lowest-early g c = λ listed sound. rw c.refused-in-Some-lowest-early.ensures
+pub returns-in-Some-lowest_early : goal.returns-in-Some-lowest_early
+returns-in-Some-lowest_early g c = λ listed sound. rw c.refused-in-Some-lowest_early.ensures
     (record {
       place = refl;
-      why = Unready.released (c.in-default.ensures listed sound) (c.in-default-lowest-waiting.ensures sound)
-          c.in-Some-lowest-early.ensures;
+      why = Unready.released (c.in_default.ensures listed sound) (c.in_default-lowest_waiting.ensures sound)
+          c.in-Some-lowest_early.ensures;
     })

@@ -5,7 +5,7 @@ use Rattle.buffers.proofs.places.by_frame.Goals as goal
 
 pub loop-frame-preserved : goal.loop-frame-preserved
 loop-frame-preserved c =
-    let pushed = c.in-ok-push.ensures in
+    let pushed = c.in_ok-push.ensures in
     let xs = c.args.places.now in
     let i = c.loop-frame.frame in
     let table = vec_items c.loop-frame.table in

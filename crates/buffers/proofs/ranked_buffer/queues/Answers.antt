@@ -5,8 +5,8 @@ use Rattle.buffers.proofs.ranked_buffer.queues.Goals as goal
 
 pub loop-frame-preserved : goal.loop-frame-preserved
 loop-frame-preserved c =
-    let pushed = c.in-ok-push.ensures in
-    let made = c.in-ok-new.ensures in
+    let pushed = c.in_ok-push.ensures in
+    let made = c.in_ok-new.ensures in
     let size : c.loop-frame.frame ≡ length (vec_items c.loop-frame.queues) = omega arith in (
       omega (arith, pushed.len),
       rw pushed.items

@@ -6,7 +6,7 @@ use Rattle.buffers.proofs.runs.carry_out.Goals as goal
 
 pub loop-call-init : goal.loop-call-init
 loop-call-init g c =
-    let made = c.in-ok-answers.ensures in
+    let made = c.in_ok-answers.ensures in
     let law = g.met.B.SendBuffer in
     (made.len, made.capacity, λ sound. sound, λ sound. rw made.items (Carried.none (λ f. law.ordered c.args.buffer.now f sound)))
 
@@ -17,9 +17,9 @@ loop-call-preserved g c =
       omega arith,
       omega arith,
       λ sound. c.answer.ensures.sound (before.2 sound),
-      λ sound. carried_more c.args.calls.now c.loop-call.call-index _ (vec_items c.push-reserved.new.self) c.loop-call-test.true (before.3 sound)
+      λ sound. carried_more c.args.calls.now c.loop-call.call-index _ (vec_items c.push_reserved.new.self) c.loop-call-test.true (before.3 sound)
           (λ f. law.ordered c.answer.new.buffer f (c.answer.ensures.sound (before.2 sound)))
-          (c.answer.ensures.step (before.2 sound)) c.push-reserved.ensures.items,
+          (c.answer.ensures.step (before.2 sound)) c.push_reserved.ensures.items,
     )
 
 pub returns : goal.returns

@@ -1,14 +1,14 @@
-use Rattle.std.proofs.Common.{◌≡◌, length, vec_items, vec_len, arith}
+use Rattle.std.proofs.Common.{◌≡◌, length, vec_items, arith}
 use Rattle.std.proofs.lemmas.List.{take_all}
 use Rattle.bench.specs.Benches.{kinds}
-use Rattle.bench.proofs.Carrying.{SoFar, none_yet, one_more, all_kept}
+use Rattle.bench.proofs.Carrying.{none_yet, one_more, all_kept}
 use Rattle.bench.proofs.bench.Bench.carry_out.Goals as goal
 
 pub loop-call-init : goal.loop-call-init
 loop-call-init g c =
     let k = kinds g.B.ReleaseBook.book g.B.ReleaseBook.meaning g.S.SendBuffer.places g.S.SendBuffer.waiting
     g.S.SendBuffer.sound in
-    let made = c.in-ok-answers.ensures in
+    let made = c.in_ok-answers.ensures in
     (made.len, made.capacity, rw made.items (none_yet k c.args.self.now))
 
 pub loop-call-preserved : goal.loop-call-preserved
@@ -18,11 +18,11 @@ loop-call-preserved g c =
     let before = c.loop-call.invariant in
     let given = vec_items c.loop-call.answers in
     let size : length given ≡ c.loop-call.call-index = omega (arith, before.0, c.loop-call.answers.ok.0) in (
-      omega (arith, c.push-reserved.ensures.len),
-      omega (arith, c.push-reserved.ensures.capacity),
+      omega (arith, c.push_reserved.ensures.len),
+      omega (arith, c.push_reserved.ensures.capacity),
       one_more k c.args.self.now c.loop-call.self c.answer.new.bench c.args.calls.now c.loop-call.call-index given
-          (vec_items c.push-reserved.new.self)
-          c.answer.result _ c.loop-call-test.true size c.push-reserved.ensures.items before.2 c.answer.ensures,
+          (vec_items c.push_reserved.new.self)
+          c.answer.result _ c.loop-call-test.true size c.push_reserved.ensures.items before.2 c.answer.ensures,
     )
 
 pub returns : goal.returns

@@ -1,15 +1,15 @@
-use Rattle.std.proofs.Common.{◌≡◌, ℕ, Some, None, Option, sym, refl, ap, ◌∙◌, arith}
+use Rattle.std.proofs.Common.{◌≡◌, ℕ, sym, refl, ap, ◌∙◌, arith}
 use Rattle.slots.specs.Rows.{row_of}
-use Rattle.bench.specs.Benches.{kinds, rows_in}
+use Rattle.bench.specs.Benches.{kinds}
 use Rattle.bench.proofs.Calls.{unplanned, untimely, too_early, not_full, accepted}
 use Rattle.bench.proofs.bench.Bench.release.Goals as goal
 
-pub returns-in-default : goal.returns-in-default
-returns-in-default g c =
+pub returns-in_default : goal.returns-in_default
+returns-in_default g c =
     let x = c.args.self.now in
     let k = kinds g.B.ReleaseBook.book g.B.ReleaseBook.meaning g.S.SendBuffer.places g.S.SendBuffer.waiting
     g.S.SendBuffer.sound in
-    let none = c.in-default.ensures ∙ ap (λ l. row_of l c.args.message) c.as-slice.ensures.value in
+    let none = c.in_default.ensures ∙ ap (λ l. row_of l c.args.message) c.as_slice.ensures.value in
     record {
       same_bus = refl;
       same_rows = refl;
@@ -22,7 +22,7 @@ returns-then-not-allows g c =
     let x = c.args.self.now in
     let k = kinds g.B.ReleaseBook.book g.B.ReleaseBook.meaning g.S.SendBuffer.places g.S.SendBuffer.waiting
     g.S.SendBuffer.sound in
-    let row = c.in-Some.ensures ∙ ap (λ l. row_of l c.args.message) c.as-slice.ensures.value in
+    let row = c.in-Some.ensures ∙ ap (λ l. row_of l c.args.message) c.as_slice.ensures.value in
     record {
       same_bus = refl;
       same_rows = refl;
@@ -36,7 +36,7 @@ returns-in-Err g c =
     let x = c.args.self.now in
     let k = kinds g.B.ReleaseBook.book g.B.ReleaseBook.meaning g.S.SendBuffer.places g.S.SendBuffer.waiting
     g.S.SendBuffer.sound in
-    let row = c.in-Some.ensures ∙ ap (λ l. row_of l c.args.message) c.as-slice.ensures.value in
+    let row = c.in-Some.ensures ∙ ap (λ l. row_of l c.args.message) c.as_slice.ensures.value in
     let says = c.in-Err.ensures in
     record {
       same_bus = refl;
@@ -51,8 +51,8 @@ returns-in-Ok g c =
     let x = c.args.self.now in
     let k = kinds g.B.ReleaseBook.book g.B.ReleaseBook.meaning g.S.SendBuffer.places g.S.SendBuffer.waiting
     g.S.SendBuffer.sound in
-    let row = c.in-Some.ensures ∙ ap (λ l. row_of l c.args.message) c.as-slice.ensures.value in
-    let says = c.in-default-release.ensures in
+    let row = c.in-Some.ensures ∙ ap (λ l. row_of l c.args.message) c.as_slice.ensures.value in
+    let says = c.in_default-release.ensures in
     let put = c.in-Ok.ensures in
     record {
       same_bus = refl;
@@ -68,8 +68,8 @@ returns-in-Err-put g c =
     let x = c.args.self.now in
     let k = kinds g.B.ReleaseBook.book g.B.ReleaseBook.meaning g.S.SendBuffer.places g.S.SendBuffer.waiting
     g.S.SendBuffer.sound in
-    let row = c.in-Some.ensures ∙ ap (λ l. row_of l c.args.message) c.as-slice.ensures.value in
-    let says = c.in-default-release.ensures in
+    let row = c.in-Some.ensures ∙ ap (λ l. row_of l c.args.message) c.as_slice.ensures.value in
+    let says = c.in_default-release.ensures in
     let put = c.in-Err-put.ensures in
     record {
       same_bus = refl;

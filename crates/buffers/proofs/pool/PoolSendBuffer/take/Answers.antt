@@ -18,31 +18,31 @@ returns-then-not-admits c =
       sound = λ sound. sound;
     }
 
-pub returns-in-err-place : goal.returns-in-err-place
-returns-in-err-place c =
-    let none = nothing_held c.args.frame (vec_items c.args.self.now.held) (rw c.as-slice.ensures.value at c.in-err-place.ensures) in
-    rw c.from-residual.ensures (record {
+pub returns-in_err-place : goal.returns-in_err-place
+returns-in_err-place c =
+    let none = nothing_held c.args.frame (vec_items c.args.self.now.held) (rw c.as_slice.ensures.value at c.in_err-place.ensures) in
+    rw c.from_residual.ensures (record {
       effect = λ sound. record { first = (none, none); others = record { places = λ k. refl; waiting = λ k ne. refl } };
       sound = λ sound. sound;
     })
 
 pub remove-held-requires : goal.remove-held-requires
-remove-held-requires c = omega (arith, next_held c.args.frame _ _ c.in-ok-place.ensures, c.as-slice.ensures.len)
+remove-held-requires c = omega (arith, next_held c.args.frame _ _ c.in_ok-place.ensures, c.as_slice.ensures.len)
 
-pub overflow-add-self : goal.overflow-add-self
-overflow-add-self c =
+pub overflow_add-free : goal.overflow_add-free
+overflow_add-free c =
     let free = vec_items c.args.self.now.free in
     let l : c.args.frame < length free = omega (arith, (c.if-not-admits.ensures.within.0 refl).1) in
     let read = get_or_read free c.args.frame c.index-free.result.now l c.index-free.ensures 0 in
     omega (arith, get_or-le-sum_by (λ x. x) free c.args.frame 0 l)
 
-pub invariant-of-self : goal.invariant-of-self
-invariant-of-self c =
+pub invariant_of-self : goal.invariant_of-self
+invariant_of-self c =
     let free = vec_items c.args.self.now.free in
     let l : c.args.frame < length free = omega (arith, (c.if-not-admits.ensures.within.0 refl).1) in
     let read = get_or_read free c.args.frame c.index-free.result.now l c.index-free.ensures 0 in
     let more = sum_by-set (λ x. x) free c.args.frame (c.index-free.result.now + 1) 0 l in
-    (omega arith, (omega arith, (omega arith, (omega arith, tt))))
+    record { frames = omega arith; counted = omega arith; few = omega arith; reserved = omega arith }
 
 pub returns : goal.returns
 returns c =
@@ -50,8 +50,8 @@ returns c =
     let l : c.args.frame < length free = omega (arith, (c.if-not-admits.ensures.within.0 refl).1) in
     let n = c.index-free.result.now in
     let read = get_or_read free c.args.frame n l c.index-free.ensures 0 in
-    let next = rw c.as-slice.ensures.value at c.in-ok-place.ensures in
+    let next = rw c.as_slice.ensures.value at c.in_ok-place.ensures in
     let all = λ (sound : SoundPool (vec_items c.args.self.now.places) free (vec_items c.args.self.now.held)).
     pool_taken (vec_items c.args.self.now.places) free (vec_items c.args.self.now.held) (vec_items c.remove-held.new.self) c.args.frame l sound
-    c.in-ok-place.place c.remove-held.result next c.remove-held.ensures.value c.remove-held.ensures.items n read in
+    c.in_ok-place.place c.remove-held.result next c.remove-held.ensures.value c.remove-held.ensures.items n read in
     record { effect = λ sound. (all sound).0; sound = λ sound. (all sound).1 }

@@ -1,4 +1,4 @@
-use Rattle.std.proofs.Common.{length, get_or, take, Some, None}
+use Rattle.std.proofs.Common.{get_or, take}
 use Rattle.std.proofs.lemmas.List.{take_all, take_more, length-take-le}
 use Rattle.buffers.specs.declared.pool.held.Held.{Held}
 use Rattle.buffers.proofs.Leading.{stays_behind, takes_lead}

@@ -4,6 +4,6 @@ use Rattle.buffers.proofs.ranked_buffer.RankedBuffer.new.Goals as goal
 
 pub returns : goal.returns
 returns c =
-    let begun = c.in-ok-queues.ensures in
-    queues_new c.args.places.now (vec_items c.in-ok-queues.queues) (omega arith)
-    c.in-ok--total.ensures.1 begun.places begun.nothing
+    let begun = c.in_ok-queues.ensures in
+    queues_new c.args.places.now (vec_items c.in_ok-queues.queues) (omega arith)
+    c.in_ok-_total.ensures.1 begun.places begun.nothing

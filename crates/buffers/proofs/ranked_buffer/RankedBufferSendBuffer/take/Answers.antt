@@ -20,6 +20,6 @@ pub returns : goal.returns
 returns c =
     let l : c.args.frame < length (vec_items c.args.self.now.queues) = omega (arith, c.if-not-admits.ensures.within.1) in
     let all = λ (sound : SoundQueues (vec_items c.args.self.now.queues)).
-    queue_taken _ _ _ c.take.new.self l c.index-mut.ensures.value c.take.ensures.places
+    queue_taken _ _ _ c.take.new.self l c.index_mut.ensures.value c.take.ensures.places
     c.take.result sound c.take.ensures.first in
     record { effect = λ sound. (all sound).0; sound = λ sound. (all sound).1 }
