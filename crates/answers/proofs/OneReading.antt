@@ -1,7 +1,7 @@
 -- A text is read in one way only: it is one table, or has one first fault.
 use Rattle.std.proofs.Common.{◌≡◌, ℕ, ◌+◌, ◌<◌, List, [], ◌∷◌, ◌++◌, length, get_or, Some, None, Option, sym, refl, ap, ◌∙◌, subst, ap₂, ⊎_elim, append_assoc, arith}
 use Rattle.std.proofs.lemmas.List.{append-nil, length-append}
-use Rattle.fields.specs.Refusals.{first_of}
+use Rattle.fields.specs.Refusals.{first_reason}
 use Rattle.fields.specs.declared.refusal.Reason.{Reason}
 use Rattle.texts.specs.Lines.{line_text}
 use Rattle.by_lines.specs.Tables.{mark, lines_text, line_rules, AllAccepted, TableOf, OneLine, NextFault, unended, unformed, refused, FaultOf, too_long, unmarked, at_line}
@@ -11,7 +11,7 @@ use Rattle.answers.proofs.Distinct.{same_line, line_no_feed, first_same, same_li
 
 -- A reading goes no further: what is left begins with no line that is accepted.
 Stops : List Line → List ℕ → Type 0
-Stops before rest = (l : Line) (more : List ℕ) → rest ≡ line_text l ++ 10 ∷ more → first_of (line_rules before l) ≡ None → ⊥
+Stops before rest = (l : Line) (more : List ℕ) → rest ≡ line_text l ++ 10 ∷ more → first_reason (line_rules before l) ≡ None → ⊥
 
 feed_inside : (bytes more rest : List ℕ) → rest ≡ bytes ++ 10 ∷ more → OneLine rest → ⊥
 feed_inside bytes more rest e one =
@@ -30,10 +30,10 @@ unfolding Stops
 fault_stops (unended one due) l more e ok = feed_inside (line_text l) more _ e one
 fault_stops {before} (unformed bytes more parts one never) l more' e ok =
     let same = first_same bytes (line_text l) more more' one (line_no_feed l) (sym parts ∙ e) in
-    some_none (first_of (line_rules before l)) (rules_turn before l (never l same.0)) ok
+    some_none (first_reason (line_rules before l)) (rules_turn before l (never l same.0)) ok
 fault_stops {before} (refused k more r parts why) l more' e ok =
     let same = first_same (line_text k) (line_text l) more more' (line_no_feed k) (line_no_feed l) (sym parts ∙ e) in
-    some_none (first_of (line_rules before k)) why (ap (λ x. first_of (line_rules before x)) (same_line k l same.0) ∙ ok)
+    some_none (first_reason (line_rules before k)) why (ap (λ x. first_reason (line_rules before x)) (same_line k l same.0) ∙ ok)
 
 end_stops : (ls : List Line) → Stops ls []
 unfolding Stops
@@ -46,10 +46,10 @@ unfolding Stops
 one_place done [] [] rest rest' e a a' s s' = (refl, e)
 one_place done [] (k ∷ ks) rest rest' e a a' s s' =
     absurd (s k (lines_text ks ++ rest') (e ∙ append_assoc (line_text k) (10 ∷ lines_text ks) rest')
-    (ap (λ b. first_of (line_rules b k)) (append-nil done) ∙ a'.0))
+    (ap (λ b. first_reason (line_rules b k)) (append-nil done) ∙ a'.0))
 one_place done (l ∷ ls) [] rest rest' e a a' s s' =
     absurd (s' l (lines_text ls ++ rest) (sym e ∙ append_assoc (line_text l) (10 ∷ lines_text ls) rest)
-    (ap (λ b. first_of (line_rules b l)) (append-nil done) ∙ a.0))
+    (ap (λ b. first_reason (line_rules b l)) (append-nil done) ∙ a.0))
 one_place done (l ∷ ls) (k ∷ ks) rest rest' e a a' s s' =
     let parts : line_text l ++ 10 ∷ (lines_text ls ++ rest) ≡ line_text k ++ 10 ∷ (lines_text ks ++ rest') =
     sym (append_assoc (line_text l) (10 ∷ lines_text ls) rest) ∙ e ∙ append_assoc (line_text k) (10 ∷ lines_text ks) rest' in
@@ -94,7 +94,7 @@ one_next {before} (refused l more r parts why) (unformed bytes more' parts' one 
     let turn = rules_turn before l (never l same.0) in cc
 one_next {before} (refused l more r parts why) (refused k more' r' parts' why') =
     let same = first_same (line_text l) (line_text k) more more' (line_no_feed l) (line_no_feed k) (sym parts ∙ parts') in
-    let e = ap (λ x. first_of (line_rules before x)) (same_line l k same.0) in cc
+    let e = ap (λ x. first_reason (line_rules before x)) (same_line l k same.0) in cc
 
 pub one_fault : {text : List ℕ} {r r' : Reason} {n n' : ℕ} → FaultOf text r n → FaultOf text r' n' → (r ≡ r') × (n ≡ n')
 one_fault (too_long h) (too_long h') = (refl, refl)

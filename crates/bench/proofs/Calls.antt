@@ -2,7 +2,7 @@
 use Rattle.std.proofs.Common.{◌≡◌, ℕ, ◌≤◌, true, false, cond, ltb, leb, List, length, get_or, is_some, Some, None, Ok, Err, vec_items, Option, sym, refl, ap, ◌∙◌, subst, arith}
 use Rattle.std.proofs.lemmas.Bool.{le-leb, and_from, ne_eqb}
 use Rattle.fields.specs.Limits.{Admitted, admitted, lowest, highest}
-use Rattle.fields.specs.Refusals.{first_of, RefusedFor}
+use Rattle.fields.specs.Refusals.{first_reason, RefusedFor}
 use Rattle.fields.specs.declared.limits.Field.{Field}
 use Rattle.fields.specs.declared.limits.Field.TheVariants.{Frame, Message, Priority, Time}
 use Rattle.fields.specs.declared.refusal.Place.TheVariants as place
@@ -35,7 +35,7 @@ admitted_test f v within_range = and_from _ _ (le-leb (lowest f) v within_range.
 
 module _ {B S : Type 0} (k : Kinds B S) (lawful : Lawful k.book) (from : State k.book) (past : List Answered) (x : Bench B S)
     (course : Course k from past x) where
-  pub slot_ran : (r : SlotReport) (o : Option Instance) (n : ℕ) (buffer : S) (p : Position) (start : ℕ) → first_of (run_checks x.position) ≡ None
+  pub slot_ran : (r : SlotReport) (o : Option Instance) (n : ℕ) (buffer : S) (p : Position) (start : ℕ) → first_reason (run_checks x.position) ≡ None
       → TakenIf (leb x.position.minislot (get_or (vec_items x.starts) x.position.slot 0))
       (meant k.places k.waiting x.buffer) x.position.slot o
       (meant k.places k.waiting buffer)
@@ -75,7 +75,7 @@ module _ {B S : Type 0} (k : Kinds B S) (lawful : Lawful k.book) (from : State k
   module _ (m t : ℕ) where
     -- where the book lists the message and the values are in range, it goes by E alone
     book_says : k.book.lists (k.meaning x.book) m ≡ true → Admitted Message m → Admitted Time t
-        → first_of (books.release_checks k.book (k.meaning x.book) m t) ≡ cond (ltb t (k.book.earliest (k.meaning x.book) m))
+        → first_reason (books.release_checks k.book (k.meaning x.book) m t) ≡ cond (ltb t (k.book.earliest (k.meaning x.book) m))
         (Some TooEarly) None
     book_says listed m-in t-in =
         let a = admitted_test Message m m-in in
@@ -89,8 +89,8 @@ module _ {B S : Type 0} (k : Kinds B S) (lawful : Lawful k.book) (from : State k
         (omega arith, omega (arith, by_clock, (order k lawful from past x course).clock_range.1))
 
     by_book : (i : Row) → row_of (rows_in x) m ≡ Some i → true ≡ allowed x.bus x.position x.released x.started t
-        → (o : Option Reason) → first_of (books.release_checks k.book (k.meaning x.book) m t) ≡ o
-        → first_of (release_checks x.bus (rows_in x) k.book (state_of k x) m t) ≡ o
+        → (o : Option Reason) → first_reason (books.release_checks k.book (k.meaning x.book) m t) ≡ o
+        → first_reason (release_checks x.bus (rows_in x) k.book (state_of k x) m t) ≡ o
     by_book i e ok o is =
         let at = order k lawful from past x course in
         let here : is_some (row_of (rows_in x) m) ≡ true = rw e in
@@ -110,18 +110,18 @@ module _ {B S : Type 0} (k : Kinds B S) (lawful : Lawful k.book) (from : State k
     pub unplanned : (e : Refusal) → e ≡ record { reason = NotListed; place = place.Bench; concerns = m } → None ≡ row_of (rows_in x) m
         → Promised k from past x (call.Release m t) (answer.Released (Err e)) x
     unplanned e is none =
-        let why : first_of (release_checks x.bus (rows_in x) k.book (state_of k x) m t) ≡ Some NotListed = rw (sym none) in
+        let why : first_reason (release_checks x.bus (rows_in x) k.book (state_of k x) m t) ≡ Some NotListed = rw (sym none) in
         refused_so e (why ∙ ap (λ r. Some r.reason) (sym is), ap (λ r. r.place) is, ap (λ r. r.concerns) is) x.book refl
 
     pub untimely : (e : Refusal) → e ≡ record { reason = TimeNotAllowed; place = place.Bench; concerns = m } → (i : Row) → Some i ≡ row_of (rows_in x) m
         → false ≡ allowed x.bus x.position x.released x.started t → Promised k from past x (call.Release m t) (answer.Released (Err e)) x
     untimely e is i row late =
-        let why : first_of (release_checks x.bus (rows_in x) k.book (state_of k x) m t) ≡ Some TimeNotAllowed = rw (sym row, sym late) in
+        let why : first_reason (release_checks x.bus (rows_in x) k.book (state_of k x) m t) ≡ Some TimeNotAllowed = rw (sym row, sym late) in
         refused_so e (why ∙ ap (λ r. Some r.reason) (sym is), ap (λ r. r.place) is, ap (λ r. r.concerns) is) x.book refl
 
     pub too_early : (e : Refusal) (why : Reason) → e ≡ record { reason = why; place = place.Bench; concerns = m } → (i : Row)
         → Some i ≡ row_of (rows_in x) m
-        → true ≡ allowed x.bus x.position x.released x.started t → first_of
+        → true ≡ allowed x.bus x.position x.released x.started t → first_reason
         (books.release_checks k.book (k.meaning x.book) m t) ≡ Some why
         → (book : B) → k.meaning book ≡ k.meaning x.book
         → Promised k from past x (call.Release m t) (answer.Released (Err e)) (moved x book x.buffer x.position x.released x.started)
@@ -135,8 +135,8 @@ module _ {B S : Type 0} (k : Kinds B S) (lawful : Lawful k.book) (from : State k
 
     -- a release that the book accepts finds a place
     pub not_full : (i : Row) → Some i ≡ row_of (rows_in x) m → true ≡ allowed x.bus x.position x.released x.started t
-        → first_of (books.release_checks k.book (k.meaning x.book) m t) ≡ None
-        → first_of (put_checks (meant k.places k.waiting x.buffer) i.entry.frame
+        → first_reason (books.release_checks k.book (k.meaning x.book) m t) ≡ None
+        → first_reason (put_checks (meant k.places k.waiting x.buffer) i.entry.frame
         (record { message = m; priority = i.entry.priority; release = t })) ≡ None
     not_full i row ok says =
         let at = order k lawful from past x course in
@@ -154,7 +154,7 @@ module _ {B S : Type 0} (k : Kinds B S) (lawful : Lawful k.book) (from : State k
         rw (a, c, d, e, f)
 
     pub accepted : (i : Row) → Some i ≡ row_of (rows_in x) m → true ≡ allowed x.bus x.position x.released x.started t
-        → first_of (books.release_checks k.book (k.meaning x.book) m t) ≡ None → (book : B)
+        → first_reason (books.release_checks k.book (k.meaning x.book) m t) ≡ None → (book : B)
         → k.meaning book ≡ k.book.after (k.meaning x.book) m t
         → (buffer : S) → k.sound buffer
         → Placed by_priority (record { message = m; priority = i.entry.priority; release = t }) (k.waiting x.buffer i.entry.frame)

@@ -3,7 +3,7 @@ use Rattle.std.proofs.Common.{◌≡◌, ℕ, ◌+◌, ◌<◌, ◌≤◌, Bool,
 use Rattle.std.specs.Option.{option_map}
 use Rattle.std.proofs.lemmas.List.{take_all, take_more, get_or_default}
 use Rattle.std.proofs.lemmas.Bool.{or_parts, eqb-true, eqb-false, cond_both}
-use Rattle.fields.specs.Refusals.{first_of}
+use Rattle.fields.specs.Refusals.{first_reason}
 use Rattle.fields.specs.declared.refusal.Reason.TheVariants.{OutOfRange, NumberUsed}
 use Rattle.fields.specs.declared.refusal.Refusal.{Refusal}
 use Rattle.books.specs.Book.{Fresh}
@@ -21,7 +21,7 @@ or_cond false true c = refl
 or_cond false false c = refl
 
 -- what the checks of a listing tell where they pass
-listing_parts : (a b u : Bool) → first_of (record { holds = not (a && b); reason = OutOfRange } ∷ record { holds = u; reason = NumberUsed } ∷ []) ≡ None → (b ≡ true) × (u ≡ false)
+listing_parts : (a b u : Bool) → first_reason (record { holds = not (a && b); reason = OutOfRange } ∷ record { holds = u; reason = NumberUsed } ∷ []) ≡ None → (b ≡ true) × (u ≡ false)
 listing_parts true true false e = (refl, refl)
 listing_parts true true true e = let z : ◌≡◌ {A = ℕ} 0 1 = cc in absurd (omega arith)
 listing_parts true false u e = let z : ◌≡◌ {A = ℕ} 0 1 = cc in absurd (omega arith)

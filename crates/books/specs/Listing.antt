@@ -2,7 +2,7 @@
 use Rattle.std.specs.Prelude.{◌≡◌, ℕ, ◌<◌, Bool, false, cond, not, ◌&&◌, ◌||◌, List, [], ◌∷◌, length, take, is_some, Some, None, Option, Result, ◌==◌, slice_index_or}
 use Rattle.std.specs.Result as results
 use Rattle.fields.specs.Limits.{admitted}
-use Rattle.fields.specs.Refusals.{Check, first_of, Verdict}
+use Rattle.fields.specs.Refusals.{Check, first_reason, Verdict}
 use Rattle.fields.specs.declared.limits.Field.TheVariants.{Message}
 use Rattle.fields.specs.declared.refusal.MakingFault.{MakingFault}
 use Rattle.fields.specs.declared.refusal.MakingFault.TheVariants as fault
@@ -37,7 +37,7 @@ module _ {M X : Type 0} (number : M → ℕ) (begins : M → Option X) where
 
   -- Why the message at a place is wrong, if it is: its range, and then whether a message before it has its number.
   abbrev pub wrong_at : List M → ℕ → M → Option Reason
-  wrong_at es i e = first_of (listing_checks (number e) (begins e) (used number (take i es) (number e)))
+  wrong_at es i e = first_reason (listing_checks (number e) (begins e) (used number (take i es) (number e)))
 
   -- The messages before a place are right.
   abbrev pub RightBelow : List M → ℕ → Type 0

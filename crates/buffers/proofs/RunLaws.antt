@@ -7,7 +7,7 @@ use Rattle.std.proofs.lemmas.List.Elements.{filter-append}
 use Rattle.std.proofs.ByRecursion.{All-weaker}
 use Rattle.std.proofs.lemmas.List.{append_assoc, append-nil, take_more}
 use Rattle.std.proofs.lemmas.Bool.{both_ways, cases_eq, cond-true, cond-false, eq-eqb, ne_eqb, leb-false}
-use Rattle.fields.specs.Refusals.{first_of}
+use Rattle.fields.specs.Refusals.{first_reason}
 use Rattle.fields.specs.declared.refusal.Refusal.{Refusal}
 use Rattle.ranked.specs.Ranks.{Ascending, Placed}
 use Rattle.buffers.specs.Buffer.{Meaning, Elsewhere, Putting, Taking, upto, of_priority, put_checks}
@@ -52,7 +52,7 @@ same_after f m n m' n' same left right there = record {
 refusal_same : (e d : Refusal) → e.reason ≡ d.reason → e.place ≡ d.place → e.concerns ≡ d.concerns → e ≡ d
 refusal_same e d p q r = rw (p, q, r)
 
-checks_same : (m n : Meaning) (f : ℕ) (x : Instance) → Same m n → first_of (put_checks m f x) ≡ first_of (put_checks n f x)
+checks_same : (m n : Meaning) (f : ℕ) (x : Instance) → Same m n → first_reason (put_checks m f x) ≡ first_reason (put_checks n f x)
 checks_same m n f x same = rw (same.places f, same.waiting f)
 
 never_both : {X : Type 0} (o o' : Option X) (x : X) → o ≡ o' → o ≡ None → o' ≡ Some x → ⊥

@@ -1,7 +1,7 @@
 -- Lines that are accepted one after the other.
 use Rattle.std.proofs.Common.{◌≡◌, ℕ, ◌+◌, ◌≤◌, Bool, true, false, cond, not, eqb, List, [], ◌∷◌, ◌++◌, length, is_some, Some, None, Option, sym, refl, ap, ◌∙◌, subst, ⊎_elim, append_assoc, arith}
 use Rattle.std.proofs.lemmas.List.{append-nil, length-append}
-use Rattle.fields.specs.Refusals.{Check, first_of}
+use Rattle.fields.specs.Refusals.{Check, first_reason}
 use Rattle.fields.specs.declared.refusal.Reason.{Reason}
 use Rattle.fields.specs.declared.refusal.Reason.TheVariants.{Malformed, OutOfRange}
 use Rattle.plan.specs.declared.draft.Message.{Message}
@@ -18,24 +18,24 @@ use Rattle.texts.specs.declared.line.Phase.TheVariants as phase
 use Rattle.texts.specs.declared.line.Step.{Step}
 
 -- A line in turn and in range is refused for what it says only.
-pub rules_said : (before : List Line) (l : Line) → in_turn before l ≡ true → fits l ≡ true → first_of (line_rules before l) ≡ first_of (table_rules before l)
+pub rules_said : (before : List Line) (l : Line) → in_turn before l ≡ true → fits l ≡ true → first_reason (line_rules before l) ≡ first_reason (table_rules before l)
 rules_said before l t f =
-    ap (λ b. cond (not b) (Some Malformed) (cond (not (fits l)) (Some OutOfRange) (first_of (table_rules before l)))) t
-    ∙ ap (λ b. cond (not b) (Some OutOfRange) (first_of (table_rules before l))) f
+    ap (λ b. cond (not b) (Some Malformed) (cond (not (fits l)) (Some OutOfRange) (first_reason (table_rules before l)))) t
+    ∙ ap (λ b. cond (not b) (Some OutOfRange) (first_reason (table_rules before l))) f
 
-pub rules_range : (before : List Line) (l : Line) → in_turn before l ≡ true → fits l ≡ false → first_of (line_rules before l) ≡ Some OutOfRange
+pub rules_range : (before : List Line) (l : Line) → in_turn before l ≡ true → fits l ≡ false → first_reason (line_rules before l) ≡ Some OutOfRange
 rules_range before l t f =
-    ap (λ b. cond (not b) (Some Malformed) (cond (not (fits l)) (Some OutOfRange) (first_of (table_rules before l)))) t
-    ∙ ap (λ b. cond (not b) (Some OutOfRange) (first_of (table_rules before l))) f
+    ap (λ b. cond (not b) (Some Malformed) (cond (not (fits l)) (Some OutOfRange) (first_reason (table_rules before l)))) t
+    ∙ ap (λ b. cond (not b) (Some OutOfRange) (first_reason (table_rules before l))) f
 
-pub rules_turn : (before : List Line) (l : Line) → in_turn before l ≡ false → first_of (line_rules before l) ≡ Some Malformed
-rules_turn before l t = ap (λ b. cond (not b) (Some Malformed) (cond (not (fits l)) (Some OutOfRange) (first_of (table_rules before l)))) t
+pub rules_turn : (before : List Line) (l : Line) → in_turn before l ≡ false → first_reason (line_rules before l) ≡ Some Malformed
+rules_turn before l t = ap (λ b. cond (not b) (Some Malformed) (cond (not (fits l)) (Some OutOfRange) (first_reason (table_rules before l)))) t
 
 -- One accepted line more.
-pub accepted_push : (done ls : List Line) (l : Line) → AllAccepted done ls → first_of (line_rules (done ++ ls) l) ≡ None → AllAccepted done (ls ++ l ∷ [])
-accepted_push done [] l all h = (subst (λ (b : List Line). first_of (line_rules b l) ≡ None) (append-nil done) h, tt)
+pub accepted_push : (done ls : List Line) (l : Line) → AllAccepted done ls → first_reason (line_rules (done ++ ls) l) ≡ None → AllAccepted done (ls ++ l ∷ [])
+accepted_push done [] l all h = (subst (λ (b : List Line). first_reason (line_rules b l) ≡ None) (append-nil done) h, tt)
 accepted_push done (k ∷ ks) l all h =
-    (all.0, accepted_push (done ++ k ∷ []) ks l all.1 (subst (λ (b : List Line). first_of (line_rules b l) ≡ None) (sym (append_assoc done (k ∷ []) ks)) h))
+    (all.0, accepted_push (done ++ k ∷ []) ks l all.1 (subst (λ (b : List Line). first_reason (line_rules b l) ≡ None) (sym (append_assoc done (k ∷ []) ks)) h))
 
 lines_push : (ls : List Line) (l : Line) (rest : List ℕ) → lines_text (ls ++ l ∷ []) ++ rest ≡ lines_text ls ++ (line_text l ++ 10 ∷ rest)
 lines_push [] l rest = append_assoc (line_text l) (10 ∷ []) rest
@@ -119,14 +119,14 @@ refused_here bytes more rest before p n f e parts one why =
 
 -- So is one that the draft refuses.
 pub refused_said : (bytes more rest : List ℕ) (before : List Line) (p : Phase) (s : Step) (r : Reason) → p ≡ phase_after before → rest ≡ bytes ++ 10 ∷ more
-    → LineRead bytes p s → first_of (table_rules before s.line) ≡ Some r → NextFault before rest r
+    → LineRead bytes p s → first_reason (table_rules before s.line) ≡ Some r → NextFault before rest r
 refused_said bytes more rest before p s r e parts read why =
     refused s.line more r (parts ∙ ap (λ b. b ++ 10 ∷ more) read.its_turn.text)
     (rules_said before s.line (read_in_turn bytes before p s e read) read.within_range ∙ why)
 
 -- The fault that a refused line gives its text.
 pub fault_at : (text rest : List ℕ) (before : List Line) → length text ≤ longest_text → text ≡ table_text before ++ rest → AllAccepted [] before
-    → (cs : List Check) (n : ℕ) → n ≡ length before + 2 → (e : TableFault) → ((r : Reason) → first_of cs ≡ Some r → NextFault before rest r) → RefusedAt cs n e
+    → (cs : List Check) (n : ℕ) → n ≡ length before + 2 → (e : TableFault) → ((r : Reason) → first_reason cs ≡ Some r → NextFault before rest r) → RefusedAt cs n e
     → TableFaultOf text e
 fault_at text rest before short parts all cs n at (fault.Refused f) next why =
     subst (FaultOf text f.reason) (sym (why.0 ∙ at)) (at_line before rest f.reason short parts all (next f.reason why.1))

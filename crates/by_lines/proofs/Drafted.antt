@@ -4,7 +4,7 @@ use mathlib.Core.Path.{fun_ext}
 use Rattle.std.proofs.lemmas.List.{map_push, get_or-set_same, get_or-set_other}
 use Rattle.std.proofs.lemmas.Bool.{and_parts, leb-true, cases_eq, eq-eqb, ne_eqb, both_ways}
 use Rattle.fields.specs.Limits.{admitted}
-use Rattle.fields.specs.Refusals.{first_of, Verdict}
+use Rattle.fields.specs.Refusals.{first_reason, Verdict}
 use Rattle.fields.specs.declared.refusal.Place.TheVariants as place
 use Rattle.fields.specs.declared.refusal.Refusal.{Refusal}
 use Rattle.fields.specs.declared.limits.Field.TheVariants as field
@@ -48,7 +48,7 @@ in_range_window m n w h = in_range_front m (admitted field.Releases n && (admitt
 
 -- The checks of a message in range, by what they look at.
 abbrev reason_by : Message → Bool → Option ℕ → Bool → Bool → ℕ → Option Reason
-reason_by m number start frame priority minislots = first_of (
+reason_by m number start frame priority minislots = first_reason (
     record { holds = number; reason = NumberUsed } ∷ record { holds = not (is_some start); reason = NodeUnknown }
     ∷ record { holds = frame; reason = FrameOfAnotherNode } ∷ record { holds = priority; reason = PriorityUsed }
     ∷ record { holds = ltb minislots (unwrap_or start 0 + m.size - 1); reason = SizeTooLong }
@@ -61,13 +61,13 @@ module _ (ls : List Line) (d : Draft) (held : DraftOf ls d) where
       sym (some_map (λ t. p t.message) entry_told (entries_of d)) ∙ ap (some (λ t. p t.message)) held.entries
       ∙ some_put_all told_up_to (λ t. p t.message) [] (told_of ls) ∙ some_map (λ t. p t.message) (λ m. record { message = m; latest = unwrap_or (start_of ls m.node) 0 }) (messages_of ls)
 
-  pub node_same : (n a : ℕ) → fits (line.Node n a) ≡ true → first_of (node_checks d n a) ≡ first_of (table_rules ls (line.Node n a))
+  pub node_same : (n a : ℕ) → fits (line.Node n a) ≡ true → first_reason (node_checks d n a) ≡ first_reason (table_rules ls (line.Node n a))
   node_same n a f =
       let p = and_mono (admitted field.Node n) (admitted field.LastStart a && true) (admitted field.LastStart a) (and_front (admitted field.LastStart a) true) f in
-      ap (λ b. cond (not b) (Some OutOfRange) (first_of (record { holds = is_some (latest_start_of d n); reason = NumberUsed } ∷ []))) p
-      ∙ ap (λ o. first_of (record { holds = is_some o; reason = NumberUsed } ∷ [])) (held.nodes n)
+      ap (λ b. cond (not b) (Some OutOfRange) (first_reason (record { holds = is_some (latest_start_of d n); reason = NumberUsed } ∷ []))) p
+      ∙ ap (λ o. first_reason (record { holds = is_some o; reason = NumberUsed } ∷ [])) (held.nodes n)
 
-  pub message_same : (m : Message) → in_range m ≡ true → d.bus.minislots ≡ minislots_of ls → first_of (message_checks d m) ≡ first_of (message_rules ls m)
+  pub message_same : (m : Message) → in_range m ≡ true → d.bus.minislots ≡ minislots_of ls → first_reason (message_checks d m) ≡ first_reason (message_rules ls m)
   message_same m r q =
       let number = some_held (same_number m) in
       let frame = some_held (other_node m) in
@@ -103,7 +103,7 @@ node_turn : (ls : List Line) (n a : ℕ) → in_turn ls (line.Node n a) ≡ true
 node_turn [] n a h = refl
 node_turn (l ∷ ls) n a h = no_messages (messages_of (l ∷ ls)) n a h
 
-none_of : (o : Option ℕ) → first_of (record { holds = is_some o; reason = NumberUsed } ∷ []) ≡ None → o ≡ None
+none_of : (o : Option ℕ) → first_reason (record { holds = is_some o; reason = NumberUsed } ∷ []) ≡ None → o ≡ None
 none_of None h = refl
 none_of (Some x) h = let z : ◌≡◌ {A = ℕ} 0 1 = cc in absurd (omega arith)
 
@@ -113,7 +113,7 @@ else_none (Some x) = refl
 
 -- The draft with one node more holds one N line more.
 pub node_held : (ls : List Line) (old new : Draft) (n a : ℕ) → DraftOf ls old → fits (line.Node n a) ≡ true → in_turn ls (line.Node n a) ≡ true
-    → first_of (table_rules ls (line.Node n a)) ≡ None → NodeAdded old new n a → DraftOf (ls ++ line.Node n a ∷ []) new
+    → first_reason (table_rules ls (line.Node n a)) ≡ None → NodeAdded old new n a → DraftOf (ls ++ line.Node n a ∷ []) new
 node_held ls old new n a held f turn free added =
     let within_range = and_parts (admitted field.Node n) (admitted field.LastStart a && true) f in
     let bounds = and_parts (leb 1 n) (leb n 64) within_range.0 in
@@ -188,22 +188,22 @@ bus_held d g s l q b = record {
   entries = ap (map entry_told) b.entries;
 }
 
-pub bus_same : (g s l q : ℕ) → fits (line.Bus g s l q) ≡ true → first_of (bus_checks g s l q) ≡ first_of (table_rules [] (line.Bus g s l q))
+pub bus_same : (g s l q : ℕ) → fits (line.Bus g s l q) ≡ true → first_reason (bus_checks g s l q) ≡ first_reason (table_rules [] (line.Bus g s l q))
 bus_same g s l q f =
     let p = and_mono (admitted field.Cycle g) _ _ (and_mono (admitted field.Offset s) _ _ (and_mono (admitted field.Minislot l) _ _ (and_front (admitted field.Minislots q) true))) f in
-    ap (λ b. cond (not b) (Some OutOfRange) (first_of (record { holds = ltb g (s + q * l); reason = SegmentTooLong } ∷ []))) p
+    ap (λ b. cond (not b) (Some OutOfRange) (first_reason (record { holds = ltb g (s + q * l); reason = SegmentTooLong } ∷ []))) p
 
 -- What the draft answers to a line is what the rules say of it.
 pub noted_node : (ls : List Line) (old new : Draft) (n a : ℕ) (r : Result Unit Refusal) → DraftOf ls old → fits (line.Node n a) ≡ true
     → in_turn ls (line.Node n a) ≡ true → Verdict (node_checks old n a) place.Draft n (λ _. NodeAdded old new n a) r
-    → MatchResult r (λ _. (first_of (table_rules ls (line.Node n a)) ≡ None) × DraftOf (ls ++ line.Node n a ∷ []) new) (RefusedFor (table_rules ls (line.Node n a)))
+    → MatchResult r (λ _. (first_reason (table_rules ls (line.Node n a)) ≡ None) × DraftOf (ls ++ line.Node n a ∷ []) new) (RefusedFor (table_rules ls (line.Node n a)))
 noted_node ls old new n a (Ok u) held f turn v =
     let free = sym (node_same ls old held n a f) ∙ v.0 in (free, node_held ls old new n a held f turn free v.1)
 noted_node ls old new n a (Err e) held f turn v = sym (node_same ls old held n a f) ∙ v.0
 
 pub noted_message : (ls : List Line) (old new : Draft) (l : Line) (m : Message) (r : Result Unit Refusal) → DraftOf ls old → in_range m ≡ true → Gives l m
     → table_rules ls l ≡ message_rules ls m → Verdict (message_checks old m) place.Draft m.number (λ _. MessageAdded old new m) r
-    → MatchResult r (λ _. (first_of (table_rules ls l) ≡ None) × DraftOf (ls ++ l ∷ []) new) (RefusedFor (table_rules ls l))
+    → MatchResult r (λ _. (first_reason (table_rules ls l) ≡ None) × DraftOf (ls ++ l ∷ []) new) (RefusedFor (table_rules ls l))
 noted_message ls old new l m (Ok u) held f gives is v =
-    (ap first_of is ∙ sym (message_same ls old held m f (bus_minislots ls old.bus held.bus)) ∙ v.0, message_held ls old new l m held gives v.1)
-noted_message ls old new l m (Err e) held f gives is v = ap first_of is ∙ sym (message_same ls old held m f (bus_minislots ls old.bus held.bus)) ∙ v.0
+    (ap first_reason is ∙ sym (message_same ls old held m f (bus_minislots ls old.bus held.bus)) ∙ v.0, message_held ls old new l m held gives v.1)
+noted_message ls old new l m (Err e) held f gives is v = ap first_reason is ∙ sym (message_same ls old held m f (bus_minislots ls old.bus held.bus)) ∙ v.0

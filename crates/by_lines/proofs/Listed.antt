@@ -9,7 +9,7 @@ use Rattle.std.proofs.lemmas.Bool.{and_parts, or_cases, or_from, or_left, or_rig
 use Rattle.std.proofs.lemmas.Bool.Decides.{nat_tests}
 use Rattle.fields.proofs.Checks.{all_passed}
 use Rattle.fields.specs.Limits.{admitted}
-use Rattle.fields.specs.Refusals.{first_of}
+use Rattle.fields.specs.Refusals.{first_reason}
 use Rattle.fields.specs.declared.limits.Field.TheVariants as field
 use Rattle.fields.specs.declared.refusal.Reason.TheVariants.{OutOfRange, NumberUsed, Malformed}
 use Rattle.fields.specs.declared.refusal.Refusal.{Refusal}
@@ -101,8 +101,8 @@ module _ {M : Type 0} (number : M → ℕ) where
         let free = used_before (d ∷ es) once w.at d w.in_list in
         let why = w.reason d in
         let none : wrong_at number begins (d ∷ es) w.at e ≡ None =
-        ap (λ b. cond (not b) (Some OutOfRange) (first_of (record { holds = used number (take w.at (d ∷ es)) (number e); reason = NumberUsed } ∷ []))) ranges
-        ∙ ap (λ b. first_of (record { holds = b; reason = NumberUsed } ∷ [])) free in
+        ap (λ b. cond (not b) (Some OutOfRange) (first_reason (record { holds = used number (take w.at (d ∷ es)) (number e); reason = NumberUsed } ∷ []))) ranges
+        ∙ ap (λ b. first_reason (record { holds = b; reason = NumberUsed } ∷ [])) free in
         let z : ◌≡◌ {A = ℕ} 0 1 = cc in omega arith
 
     -- A number has a row just where it is used.
@@ -126,14 +126,14 @@ module _ {M : Type 0} (number : M → ℕ) where
         go false u b f = f u
 
 -- What every accepted line passed.
-message_free : (before : List Line) (m : Message) → first_of (message_rules before m) ≡ None → some (same_number m) (messages_of before) ≡ false
+message_free : (before : List Line) (m : Message) → first_reason (message_rules before m) ≡ None → some (same_number m) (messages_of before) ≡ false
 message_free before m h = (all_passed (message_rules before m) h).0
 
-accepted_fits : (before : List Line) (l : Line) → first_of (line_rules before l) ≡ None → (fits l ≡ true) × (first_of (table_rules before l) ≡ None)
+accepted_fits : (before : List Line) (l : Line) → first_reason (line_rules before l) ≡ None → (fits l ≡ true) × (first_reason (table_rules before l) ≡ None)
 accepted_fits before l h = go (in_turn before l) (fits l) h
   where
-    go : (a b : Bool) → cond (not a) (Some Malformed) (cond (not b) (Some OutOfRange) (first_of (table_rules before l))) ≡ None
-        → (b ≡ true) × (first_of (table_rules before l) ≡ None)
+    go : (a b : Bool) → cond (not a) (Some Malformed) (cond (not b) (Some OutOfRange) (first_reason (table_rules before l))) ≡ None
+        → (b ≡ true) × (first_reason (table_rules before l) ≡ None)
     go true true e = (refl, e)
     go true false e = let z : ◌≡◌ {A = ℕ} 0 1 = cc in absurd (omega arith)
     go false b e = let z : ◌≡◌ {A = ℕ} 0 1 = cc in absurd (omega arith)
@@ -152,7 +152,7 @@ once_more ms m free once n =
 abbrev Once : List Line → Type 0
 Once ls = (n : ℕ) → uses (λ (m : Message). m.number) (messages_of ls) n ≤ 1
 
-once_line : (done : List Line) (l : Line) → first_of (line_rules done l) ≡ None → Once done → Once (done ++ l ∷ [])
+once_line : (done : List Line) (l : Line) → first_reason (line_rules done l) ≡ None → Once done → Once (done ++ l ∷ [])
 once_line done (line.Bus g s l q) h once n = rw (messages_more done (line.Bus g s l q ∷ []), append-nil (messages_of done)) (once n)
 once_line done (line.Node k a) h once n = rw (messages_more done (line.Node k a ∷ []), append-nil (messages_of done)) (once n)
 once_line done (line.Periodic m t j) h once n =

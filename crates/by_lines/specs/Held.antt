@@ -1,7 +1,7 @@
 -- What a read table holds: its lines, and the draft that they make.
 use Rattle.std.specs.Prelude.{◌≡◌, ℕ, Bool, cond, ◌&&◌, ◌||◌, List, [], ◌∷◌, map, Some, vec_items, ◌==◌, nat_le, nat_lt}
 use Rattle.std.specs.Option.{unwrap_or}
-use Rattle.fields.specs.Refusals.{Check, first_of}
+use Rattle.fields.specs.Refusals.{Check, first_reason}
 use Rattle.fields.specs.declared.refusal.Refusal.{Refusal}
 use Rattle.delay.specs.declared.bus.Bus.{Bus}
 use Rattle.delay.specs.declared.entry.Entry.{Entry}
@@ -67,11 +67,11 @@ pub record DraftOf (ls : List Line) (d : Draft) : Type 0 where
 
 -- Refused for the first of these conditions that holds.
 abbrev pub RefusedFor : List Check → Refusal → Type 0
-RefusedFor cs e = first_of cs ≡ Some e.reason
+RefusedFor cs e = first_reason cs ≡ Some e.reason
 
 -- The same at the line of a number, or no memory was left.
 abbrev pub RefusedAt : List Check → ℕ → TableFault → Type 0
-RefusedAt cs n (fault.Refused f) = (f.line ≡ n) × (first_of cs ≡ Some f.reason)
+RefusedAt cs n (fault.Refused f) = (f.line ≡ n) × (first_reason cs ≡ Some f.reason)
 RefusedAt cs n fault.Memory = Unit {0}
 
 -- The first fault of a text, or no memory was left.

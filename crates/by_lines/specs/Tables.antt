@@ -1,7 +1,7 @@
 -- A table text: its mark, then its lines, each accepted after those before it; and the first fault of a text.
 use Rattle.std.specs.Prelude.{◌≡◌, ℕ, ◌+◌, ◌-◌, ◌*◌, ◌<◌, ◌≤◌, Bool, false, cond, not, ◌&&◌, ◌⊎◌, List, [], ◌∷◌, ◌++◌, length, is_some, Some, None, Option, ◌==◌, ◌≢◌, nat_lt, slice_index}
 use Rattle.std.specs.Option.{unwrap_or}
-use Rattle.fields.specs.Refusals.{Check, first_of}
+use Rattle.fields.specs.Refusals.{Check, first_reason}
 use Rattle.fields.specs.declared.refusal.Reason.{Reason}
 use Rattle.fields.specs.declared.refusal.Reason.TheVariants.{TextTooLong, WrongFirstLine, Malformed, OutOfRange, NumberUsed, NodeUnknown, SegmentTooLong, FrameOfAnotherNode, PriorityUsed, SizeTooLong, FrameAfterLastStart}
 use Rattle.plan.specs.Entries.{some}
@@ -101,7 +101,7 @@ line_rules before l =
 -- Every one of the lines is accepted after all those before it.
 abbrev pub AllAccepted : List Line → List Line → Type 0
 AllAccepted before [] = Unit {0}
-AllAccepted before (l ∷ ls) = (first_of (line_rules before l) ≡ None) × AllAccepted (before ++ l ∷ []) ls
+AllAccepted before (l ∷ ls) = (first_reason (line_rules before l) ≡ None) × AllAccepted (before ++ l ∷ []) ls
 
 -- The text is the printed form of a table of these lines, all of them accepted. The bus line is among them.
 pub record TableOf (text : List ℕ) (ls : List Line) : Type 0 where
@@ -126,7 +126,7 @@ pub data NextFault (before : List Line) (rest : List ℕ) : Reason → Type 0 wh
   unformed : (bytes more : List ℕ) → rest ≡ bytes ++ 10 ∷ more → OneLine bytes → ((l : Line) → bytes ≡ line_text l → in_turn before l ≡ false)
       → NextFault before rest Malformed
   -- its first line is the printed form of a line that is refused
-  refused : (l : Line) (more : List ℕ) (r : Reason) → rest ≡ line_text l ++ 10 ∷ more → first_of (line_rules before l) ≡ Some r → NextFault before rest r
+  refused : (l : Line) (more : List ℕ) (r : Reason) → rest ≡ line_text l ++ 10 ∷ more → first_reason (line_rules before l) ≡ Some r → NextFault before rest r
 
 -- The first fault of a text: its reason, and the number of its line. The mark is line 1.
 pub data FaultOf (text : List ℕ) : Reason → ℕ → Type 0 where

@@ -1,6 +1,6 @@
 // A table text, line by line.
 ghost use Rattle.std.specs.Prelude.{◌≡◌, ℕ, ◌<◌, ◌≤◌, true, [], ◌∷◌, ◌++◌, length, None, MatchResult};
-ghost use Rattle.fields.specs.Refusals.{first_of};
+ghost use Rattle.fields.specs.Refusals.{first_reason};
 ghost use Rattle.texts.specs.Lines.{fits};
 ghost use Rattle.by_lines.specs.Tables.{mark, longest_text, in_turn, table_rules, TableOf, FaultOf};
 ghost use Rattle.by_lines.specs.Held.{lines_of, DraftOf, RefusedFor, RefusedAt, TableFaultOf};
@@ -35,7 +35,7 @@ impl Table {
         requires held { DraftOf (lines_of self.old) self.old.draft }
         requires turn { in_turn (lines_of self.old) line ≡ true }
         requires ranges { fits line ≡ true }
-        ensures noted { MatchResult result (λ _. (first_of (table_rules (lines_of self.old) line) ≡ None) × DraftOf (lines_of self.old ++ line ∷ []) self.new.draft) (RefusedFor (table_rules (lines_of self.old) line)) }
+        ensures noted { MatchResult result (λ _. (first_reason (table_rules (lines_of self.old) line) ≡ None) × DraftOf (lines_of self.old ++ line ∷ []) self.new.draft) (RefusedFor (table_rules (lines_of self.old) line)) }
         ensures lines { self.new.lines ≡ self.old.lines }
     {
         match line {
@@ -51,7 +51,7 @@ impl Table {
         requires held { DraftOf (lines_of self.old) self.old.draft }
         requires turn { in_turn (lines_of self.old) line ≡ true }
         requires ranges { fits line ≡ true }
-        ensures { MatchResult result (λ _. (first_of (table_rules (lines_of self.old) line) ≡ None) × (lines_of self.new ≡ lines_of self.old ++ line ∷ []) × DraftOf (lines_of self.new) self.new.draft) (RefusedAt (table_rules (lines_of self.old) line) number) }
+        ensures { MatchResult result (λ _. (first_reason (table_rules (lines_of self.old) line) ≡ None) × (lines_of self.new ≡ lines_of self.old ++ line ∷ []) × DraftOf (lines_of self.new) self.new.draft) (RefusedAt (table_rules (lines_of self.old) line) number) }
     {
         if let Err(refusal) = self.note(line) {
             return Err(at_line(refusal.reason, number));
@@ -65,7 +65,7 @@ impl Table {
 fn begun(heap: Global, line: Line) -> Result<Table, TableFault>
     requires turn { in_turn [] line ≡ true }
     requires ranges { fits line ≡ true }
-    ensures { MatchResult result (λ t. (first_of (table_rules [] line) ≡ None) × (lines_of t ≡ line ∷ []) × DraftOf (lines_of t) t.draft) (RefusedAt (table_rules [] line) 2) }
+    ensures { MatchResult result (λ t. (first_reason (table_rules [] line) ≡ None) × (lines_of t ≡ line ∷ []) × DraftOf (lines_of t) t.draft) (RefusedAt (table_rules [] line) 2) }
 {
     let Line::Bus(cycle, offset, minislot, minislots) = line else {
         unreachable()

@@ -1,7 +1,7 @@
 -- What a message needs never falls as it waits longer, so a climb from below passes over no delay.
 use Rattle.std.proofs.Common.{◌≡◌, ℕ, ◌+◌, ◌-◌, ◌/◌, ◌<◌, ◌≤◌, Bool, true, false, cond, List, [], ◌∷◌, None, ap, mul-le-mul_right, mul-le-mul_left, div-mul-le_self, arith, rules}
 use Rattle.std.specs.List.{AllByRecursion}
-use Rattle.fields.specs.Refusals.{first_of}
+use Rattle.fields.specs.Refusals.{first_reason}
 use Rattle.books.specs.Book.{Book, Lawful, question_checks}
 use Rattle.std.proofs.lemmas.Nat.{le-div}
 use Rattle.delay.specs.Delay.{total, room, lower, more_urgent, share_of_lower, share_of_urgent, lower_load, urgent_load, blocked_cycles, needed, Meets, ListedRow, NeverFalls, OneDelay}
@@ -55,7 +55,7 @@ module _ (bus : Bus) (lists : ℕ → Bool) (count : ℕ → ℕ → ℕ)
 
 -- The same over the state of a lawful book.
 pub climbs_on : (b : Book) → Lawful b → (s : b.State) → b.Sound s → (bus : Bus) (rows : List Row) (i : Entry)
-    → first_of (question_checks b s i.number) ≡ None → AllByRecursion (ListedRow (b.lists s)) rows → (d n : ℕ) → n ≡ needed bus (b.count s) rows i d
+    → first_reason (question_checks b s i.number) ≡ None → AllByRecursion (ListedRow (b.lists s)) rows → (d n : ℕ) → n ≡ needed bus (b.count s) rows i d
     → ((e : ℕ) → 1 ≤ e → Meets bus (b.count s) rows i e → d ≤ e) → (e : ℕ) → 1 ≤ e → Meets bus (b.count s) rows i e → n - 1 ≤ e
 climbs_on b lawful s sound bus rows i asked listed d n is =
     let own : b.lists s i.number ≡ true = search rules in

@@ -1,6 +1,6 @@
 // Entries stand by frame, then by priority.
 ghost use Rattle.delay.specs.Order.{by_frame};
-ghost use Rattle.std.proofs.Common.{rules, arith};
+ghost use Rattle.std.proofs.Common.{rules};
 
 use crate::entry::Entry;
 use ranked::Rank;
@@ -8,9 +8,9 @@ use ranked::Rank;
 impl Rank for Entry {
     ghost upto = { by_frame };
 
-    ghost total = { first_of (Prim.search rules, Prim.grind (arith, Self.row.coded.inj)) };
+    ghost total = { Prim.search rules };
 
-    ghost transitive = { first_of (Prim.search rules, Prim.grind (arith, Self.row.coded.inj)) };
+    ghost transitive = { Prim.search rules };
 
     fn is_upto(&self, other: &Entry) -> bool {
         self.frame < other.frame || self.frame == other.frame && self.priority <= other.priority

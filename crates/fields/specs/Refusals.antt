@@ -47,17 +47,17 @@ pub record Check : Type 0 where
   pub reason : Reason
 
 -- The reason that a call is refused for: that of the first condition that holds, in the order of checking.
-abbrev pub first_of : List Check → Option Reason
-first_of [] = None
-first_of (c ∷ cs) = cond c.holds (Some c.reason) (first_of cs)
+abbrev pub first_reason : List Check → Option Reason
+first_reason [] = None
+first_reason (c ∷ cs) = cond c.holds (Some c.reason) (first_reason cs)
 
 -- A refusal for just that reason, at the place, concerning the number.
 abbrev pub RefusedFor : List Check → Place → ℕ → Refusal → Type 0
-RefusedFor cs place n e = (first_of cs ≡ Some e.reason) × (e.place ≡ place) × (e.concerns ≡ n)
+RefusedFor cs place n e = (first_reason cs ≡ Some e.reason) × (e.place ≡ place) × (e.concerns ≡ n)
 
 -- What a call answers: refused for just that reason, at the place, concerning the number; else a right answer.
 abbrev pub Verdict : {X : Type 0} → List Check → Place → ℕ → (X → Type 0) → Result X Refusal → Type 0
-Verdict cs place n Right r = results.MatchResult r (λ x. (first_of cs ≡ None) × Right x) (RefusedFor cs place n)
+Verdict cs place n Right r = results.MatchResult r (λ x. (first_reason cs ≡ None) × Right x) (RefusedFor cs place n)
 
 -- What a making answers: as a call does, or that there was no memory.
 abbrev pub FaultFor : List Check → Place → ℕ → MakingFault → Type 0
@@ -65,4 +65,4 @@ FaultFor cs place n (making.Refused e) = RefusedFor cs place n e
 FaultFor cs place n making.Memory = Unit {0}
 
 abbrev pub Made : {X : Type 0} → List Check → Place → ℕ → (X → Type 0) → Result X MakingFault → Type 0
-Made cs place n Right r = results.MatchResult r (λ x. (first_of cs ≡ None) × Right x) (FaultFor cs place n)
+Made cs place n Right r = results.MatchResult r (λ x. (first_reason cs ≡ None) × Right x) (FaultFor cs place n)

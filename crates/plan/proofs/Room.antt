@@ -6,7 +6,7 @@ use Rattle.std.proofs.lemmas.List.{get_or-set_other}
 use Rattle.ranked.specs.Ranks.{Ascending, Placed}
 use Rattle.delay.specs.Order.{by_frame}
 use Rattle.delay.specs.declared.entry.Entry.{Entry}
-use Rattle.fields.specs.Refusals.{first_of}
+use Rattle.fields.specs.Refusals.{first_reason}
 use Rattle.fields.proofs.Checks.{all_passed}
 use Rattle.plan.specs.Drafts.{entries_of, latest_start_of, message_checks, Describes}
 use Rattle.plan.specs.declared.draft.Draft.{Draft}
@@ -159,27 +159,27 @@ ascends_from [] h = refl
 ascends_from (e ∷ es) h = and_from (every (by_frame e) es) (ascends es) (all_every (by_frame e) es h.0) (ascends_from es h.1)
 
 -- The number of an accepted message is free.
-pub free_number : (d : Draft) (m : Given) (e : Entry) → first_of (message_checks d m) ≡ None → e.number ≡ m.number
+pub free_number : (d : Draft) (m : Given) (e : Entry) → first_reason (message_checks d m) ≡ None → e.number ≡ m.number
     → some (numbered e.number) (entries_of d) ≡ false
 free_number d m e ok same = rw same (all_passed (message_checks d m) ok).1.0
 
 -- What else holds of an accepted message: its node is that of its frame, its priority is free, it ends within the
 -- segment, and it starts as its node does.
-pub free_frame : (d : Draft) (m : Given) (e : Entry) → first_of (message_checks d m) ≡ None → Describes m (latest_start_of d m.node) e
+pub free_frame : (d : Draft) (m : Given) (e : Entry) → first_reason (message_checks d m) ≡ None → Describes m (latest_start_of d m.node) e
     → some (nodes_clash e) (entries_of d) ≡ false
 free_frame d m e ok is =
     subst (λ (f : ℕ). some (λ x. eqb x.frame f && not (eqb x.node e.node)) (entries_of d) ≡ false) (sym is.frame)
     (subst (λ (n : ℕ). some (λ x. eqb x.frame m.frame && not (eqb x.node n)) (entries_of d) ≡ false) (sym is.node)
     (all_passed (message_checks d m) ok).1.1.1.0)
 
-pub free_priority : (d : Draft) (m : Given) (e : Entry) → first_of (message_checks d m) ≡ None → Describes m (latest_start_of d m.node) e
+pub free_priority : (d : Draft) (m : Given) (e : Entry) → first_reason (message_checks d m) ≡ None → Describes m (latest_start_of d m.node) e
     → some (priorities_clash e) (entries_of d) ≡ false
 free_priority d m e ok is =
     subst (λ (f : ℕ). some (λ x. eqb x.frame f && eqb x.priority e.priority) (entries_of d) ≡ false) (sym is.frame)
     (subst (λ (n : ℕ). some (λ x. eqb x.frame m.frame && eqb x.priority n) (entries_of d) ≡ false) (sym is.priority)
     (all_passed (message_checks d m) ok).1.1.1.1.0)
 
-pub ends_within_segment : (d : Draft) (m : Given) (e : Entry) → first_of (message_checks d m) ≡ None → Describes m (latest_start_of d m.node) e
+pub ends_within_segment : (d : Draft) (m : Given) (e : Entry) → first_reason (message_checks d m) ≡ None → Describes m (latest_start_of d m.node) e
     → ends_within d.bus.minislots e ≡ true
 ends_within_segment d m e ok is =
     let passed = ltb-false _ _ (all_passed (message_checks d m) ok).1.1.1.1.1.0 in

@@ -1,7 +1,7 @@
 // The calls of a draft: the bus, a node, a message.
 ghost use Rattle.std.specs.Prelude.{◌≡◌, ◌<◌, true, IfSome, Some, None, MatchResult, OnErr};
 ghost use Rattle.fields.specs.Limits.{admitted, Admitted};
-ghost use Rattle.fields.specs.Refusals.{first_of, Verdict, Made};
+ghost use Rattle.fields.specs.Refusals.{first_reason, Verdict, Made};
 ghost use Rattle.fields.specs.declared.limits.Field.TheVariants as field;
 ghost use Rattle.fields.specs.declared.refusal.Place.TheVariants as place;
 ghost use Rattle.plan.specs.Entries.{some, numbered};
@@ -140,7 +140,7 @@ impl Draft {
 
     // The entry of a message, with the last start of its node; or the reason that the message is refused for.
     fn entry_of(&self, message: &Message) -> Result<Entry, Reason>
-        ensures { MatchResult result (λ e. (first_of (message_checks self.now message.now) ≡ None) × Describes message.now (latest_start_of self.now message.now.node) e) (λ n. first_of (message_checks self.now message.now) ≡ Some n) }
+        ensures { MatchResult result (λ e. (first_reason (message_checks self.now message.now) ≡ None) × Describes message.now (latest_start_of self.now message.now.node) e) (λ n. first_reason (message_checks self.now message.now) ≡ Some n) }
     {
         if !all_in_range(message) {
             return Err(Reason::OutOfRange);

@@ -1,7 +1,7 @@
 -- Every call has one answer and one state after it.
 use Rattle.std.proofs.Common.{◌≡◌, ℕ, cond, eqb, List, Some, None, Ok, Err, Option, sym, refl, ap, ◌∙◌, subst, ⊎_elim, arith}
 use Rattle.std.proofs.lemmas.Bool.{cases_eq, eq-eqb, ne_eqb, cond-true, cond-false}
-use Rattle.fields.specs.Refusals.{Check, first_of, RefusedFor}
+use Rattle.fields.specs.Refusals.{Check, first_reason, RefusedFor}
 use Rattle.fields.specs.declared.refusal.Reason.{Reason}
 use Rattle.fields.specs.declared.refusal.Refusal.{Refusal}
 use Rattle.fields.specs.declared.refusal.Place.{Place}
@@ -63,7 +63,7 @@ module _ (bus : Bus) (rows : List Row) (b : Book) (s : State b) where
 
   -- a release
   module _ (m t : ℕ) where
-    only_accepted : (i : Row) (u : State b) → row_of rows m ≡ Some i → first_of (release_checks bus rows b s m t) ≡ None → Taken b s i t u
+    only_accepted : (i : Row) (u : State b) → row_of rows m ≡ Some i → first_reason (release_checks bus rows b s m t) ≡ None → Taken b s i t u
         → {a : Answer} {v : State b} → Step bus rows b s (call.Release m t) a v → (a ≡ Released (Ok tt)) × (v ≡ u)
     only_accepted i u is ok h (Step.accepted {s' = v} j js _ g) =
         let both = sym is ∙ js in let same : i ≡ j = cc in (refl, sym (same_taken i j t u v same h g))
@@ -75,7 +75,7 @@ module _ (bus : Bus) (rows : List Row) (b : Book) (s : State b) where
     only_refused d why (Step.refused {e = e} other same) =
         (ap (λ x. Released (Err x)) (one_refusal (release_checks bus rows b s m t) place.Bench m e d other why), same)
 
-    release : (o : Option Reason) → first_of (release_checks bus rows b s m t) ≡ o → Determined bus rows b s (call.Release m t)
+    release : (o : Option Reason) → first_reason (release_checks bus rows b s m t) ≡ o → Determined bus rows b s (call.Release m t)
     release (Some r) is =
         let d : Refusal = record { reason = r; place = place.Bench; concerns = m } in
         record {
@@ -109,7 +109,7 @@ module _ (bus : Bus) (rows : List Row) (b : Book) (s : State b) where
         }
 
   -- a slot run
-  only_ran : (p : SlotReport) (u : State b) → first_of (run_checks s.position) ≡ None → SlotRun bus rows b s p u
+  only_ran : (p : SlotReport) (u : State b) → first_reason (run_checks s.position) ≡ None → SlotRun bus rows b s p u
       → {a : Answer} {v : State b} → Step bus rows b s call.SlotRun a v → (a ≡ Ran (Ok p)) × (v ≡ u)
   only_ran p u ok h (Step.ran {r = q} {s' = v} _ g) = let same = same_run p q u v h g in (ap (λ x. Ran (Ok x)) (sym same.0), sym same.1)
   only_ran p u ok h (Step.over {e = e} why same) = absurd (never_both _ e.reason ok why.0)
@@ -123,7 +123,7 @@ module _ (bus : Bus) (rows : List Row) (b : Book) (s : State b) where
     same,
   )
 
-  slot_run : (o : Option Reason) → first_of (run_checks s.position) ≡ o → Determined bus rows b s call.SlotRun
+  slot_run : (o : Option Reason) → first_reason (run_checks s.position) ≡ o → Determined bus rows b s call.SlotRun
   slot_run (Some r) is =
       let d : Refusal = record { reason = r; place = place.Bench; concerns = s.position.cycle } in
       record {
@@ -175,6 +175,6 @@ module _ (bus : Bus) (rows : List Row) (b : Book) (s : State b) where
   }
 
 pub one_answer : (b : Book) → OneAnswer b
-one_answer b bus rows s (call.Release m t) = release bus rows b s m t (first_of (release_checks bus rows b s m t)) refl
-one_answer b bus rows s call.SlotRun = slot_run bus rows b s (first_of (run_checks s.position)) refl
+one_answer b bus rows s (call.Release m t) = release bus rows b s m t (first_reason (release_checks bus rows b s m t)) refl
+one_answer b bus rows s call.SlotRun = slot_run bus rows b s (first_reason (run_checks s.position)) refl
 one_answer b bus rows s call.Position = position bus rows b s

@@ -2,7 +2,7 @@
 use Rattle.std.proofs.Common.{◌≡◌, ℕ, ◌+◌, ◌<◌, ◌≤◌, Bool, true, false, cond, ◌&&◌, eqb, ◌⊎◌, List, [], ◌∷◌, ◌++◌, length, is_some, Some, None, Ok, Option, sym, refl, ap, ◌∙◌, subst, inl, inr, ⊎_elim, arith}
 use Rattle.std.proofs.ByRecursion.{All-weaker}
 use Rattle.std.proofs.lemmas.Bool.{cases_eq, eq-eqb, ne_eqb, cond-true, cond-false}
-use Rattle.fields.specs.Refusals.{first_of}
+use Rattle.fields.specs.Refusals.{first_reason}
 use Rattle.books.specs.Book.{Book, Release, Lawful, Accepted, tally}
 use Rattle.buffers.specs.declared.instance.Instance.{Instance}
 use Rattle.delay.specs.declared.bus.Bus.{Bus}
@@ -72,7 +72,7 @@ module _ (bus : Bus) (rows : List Row) (b : Book) (lawful : Lawful b) (from : St
 
   module _ (rs : List Release) (ss : List Sent) (s : State b) (k : Keeps bus rows b from.book rs ss s) where
     -- a release
-    released : (m t : ℕ) (s' : State b) (i : Row) → row_of rows m ≡ Some i → first_of (release_checks bus rows b s m t) ≡ None → Taken b s i t s'
+    released : (m t : ℕ) (s' : State b) (i : Row) → row_of rows m ≡ Some i → first_reason (release_checks bus rows b s m t) ≡ None → Taken b s i t s'
         → Keeps bus rows b from.book (record { message = m; time = t } ∷ rs) ss s'
     released m t s' i is ok taken =
         let row = found_row rows m i is in
@@ -171,7 +171,7 @@ module _ (bus : Bus) (rows : List Row) (b : Book) (lawful : Lawful b) (from : St
     }
 
     -- where a release would be accepted, the frame has a place for it
-    free : (m t : ℕ) (i : Row) → row_of rows m ≡ Some i → first_of (release_checks bus rows b s m t) ≡ None
+    free : (m t : ℕ) (i : Row) → row_of rows m ≡ Some i → first_reason (release_checks bus rows b s m t) ≡ None
         → length (s.waiting i.entry.frame) < needs (b.count from.book) rows i.entry.frame
     free m t i is ok =
         let row = found_row rows m i is in

@@ -1,7 +1,7 @@
 -- What the lookups of the slot rules find in the rows of a plan, and what the checks of a release say.
 use Rattle.std.proofs.Common.{◌≡◌, ℕ, ◌<◌, ◌≤◌, Bool, true, false, not, ◌&&◌, eqb, ltb, leb, List, [], ◌∷◌, is_some, Some, None, Option, sym, refl, ap, ◌∙◌, arith}
 use Rattle.std.proofs.lemmas.Bool.{eqb-true, eq-eqb, and_parts, leb-true, ltb-false, eqb-false, le-ltb}
-use Rattle.fields.specs.Refusals.{first_of}
+use Rattle.fields.specs.Refusals.{first_reason}
 use Rattle.fields.specs.declared.refusal.Reason.{Reason}
 use Rattle.books.specs.Book.{Book}
 use Rattle.delay.specs.declared.bus.Bus.{Bus}
@@ -36,7 +36,7 @@ some_value (Some x) e = (x, refl)
 
 -- no condition of three holds
 three : (x y z : Bool) (a c d : Reason)
-    → first_of (record { holds = not x; reason = a } ∷ record { holds = not y; reason = c } ∷ record { holds = z; reason = d } ∷ []) ≡ None
+    → first_reason (record { holds = not x; reason = a } ∷ record { holds = not y; reason = c } ∷ record { holds = z; reason = d } ∷ []) ≡ None
     → (x ≡ true) × (y ≡ true) × (z ≡ false)
 three true true false a c d e = (refl, refl, refl)
 three true true true a c d e = let z : ◌≡◌ {A = ℕ} 0 1 = cc in absurd (omega arith)
@@ -59,7 +59,7 @@ allowed_parts bus p released started t ok =
     let y = and_parts (later_than started t) (leb t (clock bus p)) x.1 in
     (x.0, y.0, leb-true t (clock bus p) y.1)
 
-pub admits : (bus : Bus) (rows : List Row) (b : Book) (s : State b) (m t : ℕ) → first_of (release_checks bus rows b s m t) ≡ None
+pub admits : (bus : Bus) (rows : List Row) (b : Book) (s : State b) (m t : ℕ) → first_reason (release_checks bus rows b s m t) ≡ None
     → Admits bus rows b s m t
 admits bus rows b s m t e =
     let h = three (is_some (row_of rows m)) (allowed bus s.position s.released s.started t) (ltb t (b.earliest s.book m)) _ _ _ e in
@@ -68,13 +68,13 @@ admits bus rows b s m t e =
 
 -- A planned release at an allowed time that is due is not refused.
 pub not_refused : (bus : Bus) (rows : List Row) (b : Book) (s : State b) (m t : ℕ) → is_some (row_of rows m) ≡ true
-    → allowed bus s.position s.released s.started t ≡ true → b.earliest s.book m ≤ t → first_of (release_checks bus rows b s m t) ≡ None
+    → allowed bus s.position s.released s.started t ≡ true → b.earliest s.book m ≤ t → first_reason (release_checks bus rows b s m t) ≡ None
 not_refused bus rows b s m t is ok due = let on-time : ltb t (b.earliest s.book m) ≡ false = le-ltb _ _ due in rw (is, ok, on-time)
 
 -- A slot is run in the cycles below the last.
-one : (x : Bool) (a : Reason) → first_of (record { holds = x; reason = a } ∷ []) ≡ None → x ≡ false
+one : (x : Bool) (a : Reason) → first_reason (record { holds = x; reason = a } ∷ []) ≡ None → x ≡ false
 one false a e = refl
 one true a e = let z : ◌≡◌ {A = ℕ} 0 1 = cc in absurd (omega arith)
 
-pub running : (p : Position) → p.cycle ≤ cycles → first_of (run_checks p) ≡ None → p.cycle < cycles
+pub running : (p : Position) → p.cycle ≤ cycles → first_reason (run_checks p) ≡ None → p.cycle < cycles
 running p l e = let not_last = eqb-false p.cycle cycles (one (eqb p.cycle cycles) _ e) in omega (arith, not_last)

@@ -2,7 +2,7 @@
 use Rattle.std.specs.Prelude.{◌≡◌, ℕ, ◌+◌, ◌<◌, ◌≤◌, true, List, length, is_some, Some, None, Ok, Err, Option}
 use Rattle.std.specs.List.{AllByRecursion}
 use Rattle.fields.specs.Limits.{Admitted}
-use Rattle.fields.specs.Refusals.{first_of}
+use Rattle.fields.specs.Refusals.{first_reason}
 use Rattle.fields.specs.declared.limits.Field.TheVariants.{Time}
 use Rattle.fields.specs.declared.refusal.Refusal.{Refusal}
 use Rattle.ranked.specs.Ranks.{Ascending}
@@ -63,7 +63,7 @@ pub record InOrder (bus : Bus) (rows : List Row) (b : Book) (from s : State b) :
   pub listed : (m : ℕ) → is_some (row_of rows m) ≡ true → b.lists s.book m ≡ true
   -- no more wait for a frame than it needs places, and before a release is accepted there is a free one
   pub room : (f : ℕ) → length (s.waiting f) ≤ needs (b.count from.book) rows f
-  pub free : (m t : ℕ) (i : Row) → row_of rows m ≡ Some i → first_of (release_checks bus rows b s m t) ≡ None
+  pub free : (m t : ℕ) (i : Row) → row_of rows m ≡ Some i → first_reason (release_checks bus rows b s m t) ≡ None
       → length (s.waiting i.entry.frame) < needs (b.count from.book) rows i.entry.frame
 
 -- A bench set up with a plan over a book in which every earliest time is 0.

@@ -1,6 +1,6 @@
 -- The slot rules: what each call answers, and the state after it.
 use Rattle.std.specs.Prelude.{◌≡◌, ℕ, ◌+◌, ◌*◌, Bool, cond, not, List, [], ◌∷◌, is_some, Some, None, Ok, Err, Option, ◌==◌, ◌≢◌, nat_le, nat_lt}
-use Rattle.fields.specs.Refusals.{Check, first_of, RefusedFor}
+use Rattle.fields.specs.Refusals.{Check, first_reason, RefusedFor}
 use Rattle.fields.specs.declared.refusal.Refusal.{Refusal}
 use Rattle.fields.specs.declared.refusal.Reason.TheVariants.{NotListed, TimeNotAllowed, TooEarly, CyclesOver}
 use Rattle.fields.specs.declared.refusal.Place.TheVariants as place
@@ -103,11 +103,11 @@ pub record SlotRun (bus : Bus) (rows : List Row) (b : Book) (s : State b) (r : S
 
 -- One call: the state before it, the call, its answer and the state after it. What is refused leaves the state.
 pub data Step (bus : Bus) (rows : List Row) (b : Book) (s : State b) : Call → Answer → State b → Type 0 where
-  accepted : {m t : ℕ} {s' : State b} (i : Row) → row_of rows m ≡ Some i → first_of (release_checks bus rows b s m t) ≡ None → Taken b s i t s'
+  accepted : {m t : ℕ} {s' : State b} (i : Row) → row_of rows m ≡ Some i → first_reason (release_checks bus rows b s m t) ≡ None → Taken b s i t s'
       → Step bus rows b s (call.Release m t) (Released (Ok tt)) s'
   refused : {m t : ℕ} {e : Refusal} {s' : State b} → RefusedFor (release_checks bus rows b s m t) place.Bench m e → s' ≡ s
       → Step bus rows b s (call.Release m t) (Released (Err e)) s'
-  ran : {r : SlotReport} {s' : State b} → first_of (run_checks s.position) ≡ None → SlotRun bus rows b s r s'
+  ran : {r : SlotReport} {s' : State b} → first_reason (run_checks s.position) ≡ None → SlotRun bus rows b s r s'
       → Step bus rows b s call.SlotRun (Ran (Ok r)) s'
   over : {e : Refusal} {s' : State b} → RefusedFor (run_checks s.position) place.Bench s.position.cycle e → s' ≡ s
       → Step bus rows b s call.SlotRun (Ran (Err e)) s'

@@ -9,7 +9,7 @@ use Rattle.std.proofs.ByRecursion.{All-get_or}
 use Rattle.std.proofs.lemmas.Nat.{div-mul-add}
 use Rattle.std.proofs.lemmas.Bool.{cases_eq, cases_lt, le-leb, and_from, both_ways}
 use Rattle.std.proofs.lemmas.Bool.Decides.{nat_tests}
-use Rattle.texts.specs.Forms.{is_ascii_digit, decimal, cap, Ends, Spelled, NoNumber}
+use Rattle.texts.specs.Forms.{is_ascii_digit, decimal, value_cap, Ends, Spelled, NoNumber}
 
 -- The last digit of a number, and what stands before it.
 split : (n d : ℕ) → d < 10 → ((n * 10 + d) / 10 ≡ n) × ((n * 10 + d) % 10 ≡ d)
@@ -43,7 +43,7 @@ is_digit b h = (grind (arith, nat_tests), grind (arith, nat_tests))
 
 -- One digit more.
 pub spelled_step : (line : List ℕ) (at end value b new : ℕ) → at ≤ end → end < length line → b ≡ get_or line end 0 → is_ascii_digit b ≡ true
-    → (end ≡ at → value ≡ 0) → (at < end → Spelled line at end value) → (at < end → 1 ≤ value) → new ≡ min (value * 10 + (b - 48)) cap
+    → (end ≡ at → value ≡ 0) → (at < end → Spelled line at end value) → (at < end → 1 ≤ value) → new ≡ min (value * 10 + (b - 48)) value_cap
     → Spelled line at (end + 1) new
 spelled_step line at end value b new low high is dig first so_far nonzero cut =
     let d = is_digit b dig in

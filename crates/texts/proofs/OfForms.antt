@@ -6,7 +6,7 @@ use Rattle.std.proofs.lemmas.Bool.Decides.{nat_tests}
 use Rattle.fields.specs.Limits.{lowest, highest, admitted}
 use Rattle.fields.specs.declared.limits.Field.{Field}
 use Rattle.plan.specs.declared.draft.Message.{Message}
-use Rattle.texts.specs.Forms.{cap, cut, fields, printed, FormOf}
+use Rattle.texts.specs.Forms.{value_cap, cut, fields, printed, FormOf}
 use Rattle.texts.specs.Lines.{kind_by, next_phase, values_of, kind_of, letter_of, fields_of, all_admitted, firsts, line_text, fits, Figures, OutOf}
 use Rattle.texts.specs.declared.line.Kind.{Kind}
 use Rattle.texts.specs.declared.line.Kind.TheVariants as kind
@@ -93,7 +93,7 @@ firsts_all [] vs k e = sym (drop_all k vs (omega arith))
 firsts_all (f ∷ fs) vs k e =
     ap (λ t. get_or vs k 0 ∷ t) (firsts_all fs vs (suc k) (omega arith)) ∙ ap (λ j. get_or vs k 0 ∷ drop j vs) (sym (add-one k)) ∙ sym (drop_more vs k 0 (omega arith))
 
-under_cap : (f : Field) → highest f < cap
+under_cap : (f : Field) → highest f < value_cap
 under_cap f = search rules
 
 -- A value past every range is out of each.
@@ -102,7 +102,7 @@ admitted_cut f n =
     ⊎_elim (λ l. ap (admitted f) (omega arith))
     (λ h. and_right (leb (lowest f) (cut n)) (leb (cut n) (highest f)) (lt-leb (cut n) (highest f) (omega (arith, under_cap f)))
     ∙ sym (and_right (leb (lowest f) n) (leb n (highest f)) (lt-leb n (highest f) (omega (arith, under_cap f)))))
-    (cases_lt n cap)
+    (cases_lt n value_cap)
 
 kept_whole : (f : Field) (n : ℕ) → admitted f (cut n) ≡ true → cut n ≡ n
 kept_whole f n h = let p = and_parts (leb (lowest f) (cut n)) (leb (cut n) (highest f)) h in omega (arith, leb-true (cut n) (highest f) p.1, under_cap f)

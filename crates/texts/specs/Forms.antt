@@ -12,8 +12,8 @@ decimal zero = 48 ∷ []
 decimal (suc n) = map (λ d. 48 + d) (digits_of 10 (suc n))
 
 -- Past every range: where a value is cut off.
-abbrev pub cap : ℕ
-cap = 1000000000000
+abbrev pub value_cap : ℕ
+value_cap = 1000000000000
 
 -- No digit comes first.
 abbrev pub Ends : List ℕ → Type 0
@@ -24,7 +24,7 @@ Ends (b ∷ bs) = is_ascii_digit b ≡ false
 pub record Spelled (line : List ℕ) (at end value : ℕ) : Type 0 where
   pub number : ℕ
   pub digits : drop at line ≡ decimal number ++ drop end line
-  pub cut : value ≡ min number cap
+  pub cut : value ≡ min number value_cap
 
 -- The same, and no digit comes after it.
 pub record Reads (line : List ℕ) (at end value : ℕ) : Type 0 where
@@ -48,7 +48,7 @@ printed letter ns = letter ∷ fields ns []
 
 -- A value as it is kept: cut off past every range.
 abbrev pub cut : ℕ → ℕ
-cut n = min n cap
+cut n = min n value_cap
 
 -- The line is printed from this letter and numbers that come to these values.
 pub record FormOf (line : List ℕ) (letter : ℕ) (values : List ℕ) : Type 0 where

@@ -1,6 +1,6 @@
 -- A table text and its faults.
 use Rattle.std.specs.Prelude.{◌≡◌, ℕ, ◌+◌, ◌<◌, ◌≤◌, true, ◌⊎◌, List, [], ◌∷◌, ◌++◌, length, Some, vec_items, ◌≢◌, slice_index}
-use Rattle.fields.specs.Refusals.{Check, first_of}
+use Rattle.fields.specs.Refusals.{Check, first_reason}
 use Rattle.fields.specs.declared.refusal.Reason.TheVariants.{TextTooLong, WrongFirstLine, Malformed}
 use Rattle.plan.specs.Drafts.{bus_checks, Begun, node_checks, NodeAdded, message_checks, MessageAdded}
 use Rattle.plan.specs.declared.draft.Message.{Message}
@@ -66,7 +66,7 @@ LineAdded old new (line.Window m k w) n =
 
 -- Refused at the line for the first of these checks that holds, or no memory was left.
 abbrev pub RefusedAt : List Check → ℕ → TableFault → Type 0
-RefusedAt cs n (fault.Refused f) = (f.line ≡ n) × (first_of cs ≡ Some f.reason)
+RefusedAt cs n (fault.Refused f) = (f.line ≡ n) × (first_reason cs ≡ Some f.reason)
 RefusedAt cs n fault.Memory = Unit {0}
 
 -- A table of the bus line alone.

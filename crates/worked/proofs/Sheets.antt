@@ -3,7 +3,7 @@ use Rattle.std.proofs.Common.{◌≡◌, ℕ, ◌+◌, ◌-◌, ◌*◌, ◌<◌
 use Rattle.std.specs.List.{range_with_len}
 use Rattle.std.proofs.lemmas.List.{append-nil}
 use Rattle.std.proofs.lemmas.Bool.{ltb-true, cases_lt}
-use Rattle.fields.specs.Refusals.{first_of}
+use Rattle.fields.specs.Refusals.{first_reason}
 use Rattle.fields.specs.declared.limits.Field.TheVariants as field
 use Rattle.books.specs.Book.{Book}
 use Rattle.delay.specs.Delay.{needed, Meets, Least}
@@ -22,7 +22,7 @@ use Rattle.worked.proofs.Finds.{Found, found, nothing, and_then, when_true, at_m
 
 abbrev pub accepted : (before ls : List Line) → Found (AllAccepted before ls)
 accepted before [] = found tt
-accepted before (l ∷ ls) = and_then (is_none (first_of (line_rules before l))) (λ h. and_then (accepted (before ++ l ∷ []) ls) (λ t. found (h, t)))
+accepted before (l ∷ ls) = and_then (is_none (first_reason (line_rules before l))) (λ h. and_then (accepted (before ++ l ∷ []) ls) (λ t. found (h, t)))
 
 abbrev pub table_of : (text : List ℕ) (ls : List Line) → Found (TableOf text ls)
 table_of text ls =

@@ -2,7 +2,7 @@
 use Rattle.std.proofs.Common.{◌≡◌, ℕ, zero, suc, ◌+◌, ◌-◌, Bool, true, false, ◌&&◌, List, [], ◌∷◌, ◌++◌, length, drop, Some, None, Option, refl, ap, inl, inr}
 use Rattle.std.specs.List.{AllByRecursion}
 use Rattle.std.proofs.lemmas.Bool.{and_parts, both_ways}
-use Rattle.fields.specs.Refusals.{first_of}
+use Rattle.fields.specs.Refusals.{first_reason}
 use Rattle.fields.specs.declared.refusal.Reason.{Reason}
 use Rattle.fields.specs.declared.refusal.Reason.TheVariants.{NoDelay}
 use Rattle.delay.specs.Delay.{lower_load, urgent_load}
@@ -91,7 +91,7 @@ answer text prints (to_late ls ds) =
       p,
     ))))))))))
 answer text prints (to_line before l) =
-    and_then (at_most (length text) longest_text) (λ short. and_then (accepted [] before) (λ all. and_then (reason_of (first_of (line_rules before l))) (λ r.
+    and_then (at_most (length text) longest_text) (λ short. and_then (accepted [] before) (λ all. and_then (reason_of (first_reason (line_rules before l))) (λ r.
     and_then (same_bytes text (table_text before ++ (line_text l ++ 10 ∷ drop (length (table_text before) + length (line_text l) + 1) text))) (λ t.
     and_then (same_bytes prints (text_of_fault (record { reason = r.0; line = length before + 2 }))) (λ p.
     found (inr (
