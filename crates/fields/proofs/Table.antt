@@ -1,5 +1,5 @@
 -- The table of limits has, at the place of each field, that field's range.
-use Rattle.std.proofs.Common.{◌≡◌, ℕ, Bool, true, false, ◌&&◌, eqb, List, [], ◌∷◌, get_or, refl, rules}
+use Rattle.std.proofs.Common.{◌≡◌, ℕ, List, [], ◌∷◌, get_or, rules}
 use Rattle.fields.specs.Limits.{lowest, highest, place_of}
 use Rattle.fields.specs.declared.limits.Field.{Field}
 use Rattle.fields.specs.declared.limits.Limits.{Limits}

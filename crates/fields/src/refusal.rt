@@ -30,11 +30,12 @@ pub enum Reason {
     PlacesFull = 20,
 }
 
-impl Reason {
-    pub fn number(self) -> u8
-        ensures { result ≡ number_of self }
-    {
-        self as u8
+// The number of a reason.
+impl From<Reason> for u8 {
+    ghost from_gives = { λ reason n. n ≡ number_of reason };
+
+    fn from(reason: Reason) -> u8 {
+        reason as u8
     }
 }
 
@@ -62,6 +63,17 @@ impl Place {
             Place::Bench => "bench",
             Place::Book => "book",
             Place::Buffer => "buffer",
+        }
+    }
+
+    // A refusal that is spoken here.
+    pub fn refuses(self, reason: Reason, concerns: u32) -> Refusal
+        ensures { result ≡ record { reason = reason; place = self; concerns = concerns } }
+    {
+        Refusal {
+            reason,
+            place: self,
+            concerns,
         }
     }
 }

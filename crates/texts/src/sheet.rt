@@ -116,7 +116,7 @@ pub fn text_of(heap: Global, rows: &[Row]) -> Result<String, AllocError>
 pub fn fault_text(heap: Global, fault: LineFault) -> Result<String, AllocError>
     ensures { IfOk result (λ s. string_bytes s ≡ text_of_fault fault) }
 {
-    let number = fault.reason.number();
+    let number = u8::from(fault.reason);
     let line = fault.line;
     format!(in heap; "E {number} {line}\n")
 }
