@@ -23,12 +23,9 @@ fn place_for<T: Rank>(list: &[T], x: &T) -> usize
     ensures before { (k : ℕ) (d : T) → k < result → T.upto (slice_index_or list.now k d) x.now ≡ true }
     ensures stop { (d : T) → result < length list.now → T.upto (slice_index_or list.now result d) x.now ≡ false }
 {
-    for (i, y) in list.iter().enumerate() {
-        if !y.is_upto(x) {
-            return i;
-        }
-    }
-    list.len()
+    list.iter()
+        .position(|y| !y.is_upto(x))
+        .unwrap_or(list.len())
 }
 
 // Puts x behind all elements of equal or smaller rank and before the rest. Where the list's room is used up, x comes
@@ -43,8 +40,5 @@ pub fn insert<T: Rank>(list: &mut Vec<T>, x: T) -> Result<(), T>
         return Err(x);
     }
     let at = place_for(list.as_slice(), &x);
-    match list.insert(at, x) {
-        Ok(()) => Ok(()),
-        Err(back) => Err(back.value),
-    }
+    list.insert(at, x).map_err(|back| back.value)
 }
