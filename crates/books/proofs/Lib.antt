@@ -1,2 +1,4 @@
 mod Checks
 mod Listing
+mod Lowest
+mod Places

@@ -9,6 +9,5 @@ pub mod PeriodicLaws
 pub mod Quotients
 pub mod RowBook
 pub mod Places
-pub mod TableRows
 pub mod WindowLaws
 pub mod Tallies

@@ -4,9 +4,9 @@ use Rattle.std.specs.Prelude.{ℕ, ◌+◌, ◌-◌, ◌≤◌, max, cond, ◌&&
 use Rattle.fields.specs.Limits.{Admitted, admitted}
 use Rattle.fields.specs.declared.limits.Field.TheVariants.{Period, Jitter, Time}
 use Rattle.books.specs.Rows.{Kind, rounded_up, rows_for}
-use Rattle.books.specs.declared.periodic.PeriodicBook.{PeriodicBook}
 use Rattle.books.specs.declared.periodic.PeriodicMessage.{PeriodicMessage}
 use Rattle.books.specs.declared.periodic.row.PeriodicRow.{PeriodicRow}
+use Rattle.books.specs.declared.rows.RowBook.{RowBook}
 
 -- What is kept for a message: its period and jitter, the time of the last release, and the least nominal time of the next.
 pub record Nominal : Type 0 where
@@ -45,6 +45,9 @@ first_nominal m =
 abbrev pub nominal_of : PeriodicRow → Nominal
 nominal_of x = record { period = x.period; jitter = x.jitter; last = x.last; next = x.next }
 
+abbrev pub PeriodicBook : Type 0
+PeriodicBook = RowBook PeriodicRow
+
 -- The rows of a book, by message number.
 abbrev pub nominal_rows : PeriodicBook → List (Option Nominal)
-nominal_rows b = rows_for nominal_of (vec_items b.rows.places)
+nominal_rows b = rows_for nominal_of (vec_items b.places)

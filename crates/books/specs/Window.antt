@@ -3,9 +3,9 @@ use Rattle.std.specs.Prelude.{ℕ, ◌+◌, ◌-◌, ◌*◌, ◌≤◌, max, co
 use Rattle.fields.specs.Limits.{Admitted, admitted}
 use Rattle.fields.specs.declared.limits.Field.TheVariants.{Releases, Window, Time}
 use Rattle.books.specs.Rows.{Kind, rounded_up, rows_for}
-use Rattle.books.specs.declared.window.WindowBook.{WindowBook}
 use Rattle.books.specs.declared.window.WindowMessage.{WindowMessage}
 use Rattle.books.specs.declared.window.row.WindowRow.{WindowRow}
+use Rattle.books.specs.declared.rows.RowBook.{RowBook}
 
 -- What is kept for a message: how many releases a window holds, its length, the time of the last release, and when the
 -- windows end that the last sixteen releases began, newest first, with 0 where there was none.
@@ -45,6 +45,9 @@ first_span m =
 abbrev pub span_of : WindowRow → Span
 span_of x = record { releases = x.releases; window = x.window; last = x.last; ends = x.ends }
 
+abbrev pub WindowBook : Type 0
+WindowBook = RowBook WindowRow
+
 -- The rows of a book, by message number.
 abbrev pub span_rows : WindowBook → List (Option Span)
-span_rows b = rows_for span_of (vec_items b.rows.places)
+span_rows b = rows_for span_of (vec_items b.places)

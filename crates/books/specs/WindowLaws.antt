@@ -1,8 +1,8 @@
 -- Window rows are lawful.
-use Rattle.std.specs.Prelude.{◌≡◌, ℕ, zero, suc, ◌+◌, ◌-◌, ◌*◌, ◌<◌, ◌≤◌, Bool, true, false, cond, ◌&&◌, List, [], ◌∷◌, ◌++◌, length, take, drop, replicate, Some, None, slice_index, slice_set, refl}
+use Rattle.std.specs.Prelude.{◌≡◌, ℕ, zero, suc, ◌+◌, ◌-◌, ◌*◌, ◌<◌, ◌≤◌, Bool, true, false, cond, ◌&&◌, List, ◌∷◌, length, take, replicate, Some, None, slice_index, refl}
 use Rattle.std.proofs.Common.{⊎_elim, suc-mul, mul-suc, mul-zero, zero-mul, mul-le-mul, mul-le-mul_left, arith}
 use Rattle.std.specs.Option.{option_map, unwrap_or}
-use Rattle.std.proofs.lemmas.List.{get_or-take, get_or_past, length-take, length-drop}
+use Rattle.std.proofs.lemmas.List.{get_or-take, get_or_past, length-take}
 use Rattle.std.proofs.lemmas.Bool.{and_parts, leb-true, ltb-true, cond_both, cases_lt}
 use Rattle.fields.specs.Limits.{admitted}
 use Rattle.fields.specs.declared.limits.Field.TheVariants.{Releases, Window}
@@ -25,18 +25,6 @@ front_below n ends b all k = ⊎_elim
 pub pushed_below : (n : ℕ) (v : ℕ) (ends : List ℕ) (b : ℕ) → v ≤ b → ((j : ℕ) → slice_index ends j ≤ b) → (k : ℕ) → slice_index (v ∷ take n ends) k ≤ b
 pushed_below n v ends b l all zero = l
 pushed_below n v ends b l all (suc k) = front_below n ends b all k
-
--- a list turned by one place, with another first
-turned : (xs ys : List ℕ) (v : ℕ) → length xs ≡ 1 → slice_set (xs ++ ys) 0 v ≡ v ∷ ys
-turned [] ys v e = absurd (omega arith)
-turned (x ∷ []) ys v e = refl
-turned (x ∷ y ∷ xs) ys v e = absurd (omega arith)
-
-pub ends_pushed : (ends rotated : List ℕ) (v : ℕ) → length ends ≡ 16 → rotated ≡ drop (length ends - 1) ends ++ take (length ends - 1) ends
-    → slice_set rotated 0 v ≡ v ∷ take 15 ends
-ends_pushed ends rotated v sixteen e =
-    let one : length (drop 15 ends) ≡ 1 = simp length-drop (omega arith) in
-    rw (e, sixteen) (turned (drop 15 ends) (take 15 ends) v one)
 
 -- Of n releases in a window that begins at a time, since the row `first`, with the row `x` after all: the windows that
 -- they began end after this one does, and there are no more than the window may hold.

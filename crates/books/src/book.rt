@@ -1,9 +1,8 @@
 // What every release book is.
 ghost use Rattle.std.specs.Prelude.{◌≡◌};
-ghost use Rattle.fields.specs.declared.refusal.Place.TheVariants as place;
 ghost use Rattle.books.specs.Book.{Book, Lawful, Released, Listed, Counted};
 
-use fields::refusal::{Place, Reason, Refusal};
+use fields::refusal::Refusal;
 
 // The longest stretch that a count is answered for.
 pub const LONGEST: u32 = 16_000_000;
@@ -40,15 +39,4 @@ pub trait ReleaseBook {
     ghost lawful: { Lawful book };
 
     ghost sound: { (x : Self) → book.Sound (meaning x) };
-}
-
-// A refusal by a book, concerning the message.
-pub(crate) fn refused(reason: Reason, message: u16) -> Refusal
-    ensures { result ≡ record { reason = reason; place = place.Book; concerns = message } }
-{
-    Refusal {
-        reason,
-        place: Place::Book,
-        concerns: message as u32,
-    }
 }

@@ -5,9 +5,9 @@ ghost use Rattle.books.specs.Joint.{joined, sides, Sharing, Joining};
 ghost use Rattle.books.specs.JointLaws.{joined_lawful};
 ghost use Rattle.std.proofs.Common.{rules};
 
-use crate::book::{ReleaseBook, refused};
+use crate::book::ReleaseBook;
 use fields::limits::{Field, limits_of};
-use fields::refusal::{Reason, Refusal};
+use fields::refusal::{Place, Reason, Refusal};
 
 // The left serves what it lists, the right the rest.
 #[derive(Drop)]
@@ -26,41 +26,36 @@ pub struct JointRefused<L, R> {
 
 // The lowest message that both list.
 fn shared<L: ReleaseBook, R: ReleaseBook>(left: &L, right: &R) -> Option<u16>
-    ensures { Sharing L.ReleaseBook.book R.ReleaseBook.book (L.ReleaseBook.meaning left.now) (R.ReleaseBook.meaning right.now) result }
+    ensures { Sharing L.book R.book (L.meaning left.now) (R.meaning right.now) result }
 {
     let limits = limits_of(Field::Message);
-    for number in limits.low..=limits.high {
-        let message = number as u16;
-        if left.lists(message) && right.lists(message) {
-            return Some(message);
-        }
-    }
-    None
+    let mut numbers = limits.low as u16..limits.high as u16 + 1;
+    numbers.find(|message| left.lists(*message) && right.lists(*message))
 }
 
 impl<L: ReleaseBook, R: ReleaseBook> JointBook<L, R> {
     // The book of both, unless they share a message.
     pub fn new(left: L, right: R) -> Result<JointBook<L, R>, JointRefused<L, R>>
-        ensures making { Joining L.ReleaseBook.book R.ReleaseBook.book L.ReleaseBook.meaning R.ReleaseBook.meaning left right result }
-        ensures fresh { IfOk result (λ j. Fresh L.ReleaseBook.book (L.ReleaseBook.meaning left) → Fresh R.ReleaseBook.book (R.ReleaseBook.meaning right) → Fresh (joined L.ReleaseBook.book R.ReleaseBook.book) (sides L.ReleaseBook.meaning R.ReleaseBook.meaning j)) }
+        ensures making { Joining L.book R.book L.meaning R.meaning left right result }
+        ensures fresh { IfOk result (λ j. Fresh L.book (L.meaning left) → Fresh R.book (R.meaning right) → Fresh (joined L.book R.book) (sides L.meaning R.meaning j)) }
     {
         match shared(&left, &right) {
             None => Ok(JointBook { left, right }),
             Some(message) => Err(JointRefused {
                 left,
                 right,
-                refusal: refused(Reason::NumberUsed, message),
+                refusal: Place::Book.refuses(Reason::NumberUsed, message.into()),
             }),
         }
     }
 }
 
 impl<L: ReleaseBook, R: ReleaseBook> ReleaseBook for JointBook<L, R> {
-    ghost book = { joined L.ReleaseBook.book R.ReleaseBook.book };
+    ghost book = { joined L.book R.book };
 
-    ghost meaning = { sides L.ReleaseBook.meaning R.ReleaseBook.meaning };
+    ghost meaning = { sides L.meaning R.meaning };
 
-    ghost lawful = { joined_lawful L.ReleaseBook.book R.ReleaseBook.book L.ReleaseBook.lawful R.ReleaseBook.lawful };
+    ghost lawful = { joined_lawful L.book R.book L.lawful R.lawful };
 
     ghost sound = { Prim.search rules };
 

@@ -1,27 +1,42 @@
-// What the books that keep a row for each message share: the rows by message number, and the checks of each call.
-ghost use Rattle.std.specs.Prelude.{◌≡◌, ℕ, ◌+◌, ◌≤◌, false, is_some, IfOk, None, vec_len, slice_index_or};
-ghost use Rattle.std.specs.Option.{option_map};
+// The books that keep a row for each message: the rows by message number, and the checks of each call.
+ghost use Rattle.std.specs.Prelude.{◌≡◌, ℕ, ◌+◌, ◌≤◌, false, is_some, IfOk, None, Option, vec_len, slice_index_or};
+ghost use Rattle.std.specs.Option.{option_map, unwrap_or};
 ghost use Rattle.fields.specs.Limits.{Admitted, highest};
 ghost use Rattle.fields.specs.declared.limits.Field.TheVariants.{Message, Time};
-ghost use Rattle.books.specs.Book.{longest};
-ghost use Rattle.books.specs.Listing.{RowListed};
+ghost use Rattle.books.specs.Book.{longest, Fresh};
+ghost use Rattle.books.specs.Listing.{RowListed, Making};
 ghost use Rattle.books.specs.Rows.{Kind, RowLaws, Found, row_at, row_book, rows_for};
 ghost use Rattle.books.specs.Places.{rows_sound};
 ghost use Rattle.books.specs.RowBook.{row_book_lawful};
 ghost use Rattle.std.proofs.Common.{rules};
 
-use crate::book::{LONGEST, ReleaseBook, refused};
+use crate::book::{LONGEST, ReleaseBook};
 use fields::limits::{Field, admits, limits_of};
-use fields::refusal::{Reason, Refusal};
+use fields::refusal::{MakingFault, Place, Reason, Refusal};
 use std::alloc::{AllocError, Global};
 
-// What a book keeps for one message.
+// What a kind of book keeps for one message.
 pub trait MessageRow: Copy {
+    // a message as a new book of the kind lists it
+    type Message: Copy;
+
     // the rows of such books
     ghost kind: { Kind };
 
     // the row that a value stands for
     ghost figures: { Self → kind.Row };
+
+    ghost number: { Self.Message → ℕ };
+
+    // the row that a message begins with: none where a figure is out of range
+    ghost begins: { Self.Message → Option kind.Row };
+
+    fn number_of(message: Self::Message) -> u16
+        ensures { result ≡ number message };
+
+    // The row that the message begins with, where its figures are in range.
+    fn first(message: Self::Message) -> Option<Self>
+        ensures { option_map figures result ≡ begins message };
 
     fn earliest(self) -> u64
         ensures { result ≡ kind.earliest (figures self) };
@@ -44,87 +59,93 @@ pub trait MessageRow: Copy {
     ghost lawful: { RowLaws kind };
 
     ghost sound: { (x : Self) → kind.Sound (figures x) };
+
+    // a new row admits a release at once
+    ghost at_once: { (m : Self.Message) → unwrap_or (option_map kind.earliest (begins m)) 0 ≡ 0 };
 }
 
-// The rows by message number. Place 0 is never used, since numbers begin at 1.
+// A book of rows, by message number. Place 0 is never used, since numbers begin at 1.
 #[derive(Drop)]
-pub struct RowTable<R> {
+pub struct RowBook<R> {
     places: Vec<Option<R>>,
     ghost sized: { vec_len places ≡ highest Message + 1 },
     ghost spare: { is_some (slice_index_or places.items 0 None) ≡ false },
 }
 
-impl<R: MessageRow> RowTable<R> {
-    // Rows of no message.
-    pub fn empty(heap: Global) -> Result<RowTable<R>, AllocError>
-        ensures { IfOk result (λ t. ((n : ℕ) → row_at (rows_for R.MessageRow.figures t.places.items) n ≡ None)) }
+impl<R: MessageRow> RowBook<R> {
+    // A book of these messages, none of them released yet. The first that is wrong is refused: out of range, or listed
+    // before.
+    pub fn new(heap: Global, messages: &[R::Message]) -> Result<RowBook<R>, MakingFault>
+        ensures making { Making R.number R.begins (λ b. rows_for R.figures b.places.items) messages.now result }
+        ensures fresh { IfOk result (λ b. Fresh (row_book R.kind) (rows_for R.figures b.places.items)) }
+    {
+        let mut book = RowBook::empty(heap)?;
+        for message in messages {
+            book.list(R::number_of(*message), R::first(*message))?;
+        }
+        Ok(book)
+    }
+
+    // A book of no message.
+    fn empty(heap: Global) -> Result<RowBook<R>, AllocError>
+        ensures { IfOk result (λ b. ((n : ℕ) → row_at (rows_for R.figures b.places.items) n ≡ None)) }
     {
         let size = limits_of(Field::Message).high as usize + 1;
-        let mut places = Vec::with_capacity(heap, size)?;
-        while places.len() < size {
-            places.push(None)?;
-        }
-        Ok(RowTable { places })
+        let places = vec![in heap; None; size]?;
+        Ok(RowBook { places })
     }
 
     // One message more, with the row that it begins with: none where a figure is out of range.
-    pub fn list(&mut self, message: u16, row: Option<R>) -> Result<(), Refusal>
-        ensures { RowListed (rows_for R.MessageRow.figures self.old.places.items) message (option_map R.MessageRow.figures row) result (rows_for R.MessageRow.figures self.new.places.items) }
+    fn list(&mut self, message: u16, row: Option<R>) -> Result<(), Refusal>
+        ensures { RowListed (rows_for R.figures self.old.places.items) message (option_map R.figures row) result (rows_for R.figures self.new.places.items) }
     {
-        if !admits(Field::Message, message as u64) || row.is_none() {
-            return Err(refused(Reason::OutOfRange, message));
+        if !admits(Field::Message, message.into()) || row.is_none() {
+            return Err(Place::Book.refuses(Reason::OutOfRange, message.into()));
         }
         if self.row(message).is_some() {
-            return Err(refused(Reason::NumberUsed, message));
+            return Err(Place::Book.refuses(Reason::NumberUsed, message.into()));
         }
-        self.places[message as usize] = row;
+        self.places[usize::from(message)] = row;
         Ok(())
     }
 
     // The row of a message, where the book lists it.
     fn row(&self, message: u16) -> Option<R>
-        ensures { row_at (rows_for R.MessageRow.figures self.now.places.items) message ≡ option_map R.MessageRow.figures result }
+        ensures { row_at (rows_for R.figures self.now.places.items) message ≡ option_map R.figures result }
     {
-        let place = message as usize;
-        if place < self.places.len() {
-            self.places[place]
-        } else {
-            None
-        }
+        *self.places.get(usize::from(message))?
     }
 
     // The row of a message, by the checks that every question begins with.
     fn find(&self, message: u16) -> Result<R, Refusal>
-        ensures { Found R.MessageRow.kind R.MessageRow.figures self.now.places.items message result }
+        ensures { Found R.kind R.figures self.now.places.items message result }
     {
-        if !admits(Field::Message, message as u64) {
-            return Err(refused(Reason::OutOfRange, message));
+        if !admits(Field::Message, message.into()) {
+            return Err(Place::Book.refuses(Reason::OutOfRange, message.into()));
         }
-        match self.row(message) {
-            Some(row) => Ok(row),
-            None => Err(refused(Reason::NotListed, message)),
-        }
+        self.row(message)
+            .ok_or(Place::Book.refuses(Reason::NotListed, message.into()))
     }
 }
 
-impl<R: MessageRow> ReleaseBook for RowTable<R> {
-    ghost book = { row_book R.MessageRow.kind };
+impl<R: MessageRow> ReleaseBook for RowBook<R> {
+    ghost book = { row_book R.kind };
 
-    ghost meaning = { λ t. rows_for R.MessageRow.figures t.places.items };
+    ghost meaning = { λ t. rows_for R.figures t.places.items };
 
-    ghost lawful = { row_book_lawful R.MessageRow.kind R.MessageRow.lawful };
+    ghost lawful = { row_book_lawful R.kind R.lawful };
 
-    ghost sound = { λ t. rows_sound R.MessageRow.kind R.MessageRow.figures R.MessageRow.sound t.places.items (Prim.search rules) t.spare };
+    ghost sound = { λ t. rows_sound R.kind R.figures R.sound t.places.items (Prim.search rules) t.spare };
 
     fn release(&mut self, message: u16, time: u64) -> Result<(), Refusal> {
         if !admits(Field::Time, time) {
-            return Err(refused(Reason::OutOfRange, message));
+            return Err(Place::Book.refuses(Reason::OutOfRange, message.into()));
         }
         let row = self.find(message)?;
         if time < row.earliest() {
-            return Err(refused(Reason::TooEarly, message));
+            return Err(Place::Book.refuses(Reason::TooEarly, message.into()));
         }
-        self.places[message as usize] = Some(row.released(time));
+        self.places[usize::from(message)] = Some(row.released(time));
         Ok(())
     }
 
@@ -146,7 +167,7 @@ impl<R: MessageRow> ReleaseBook for RowTable<R> {
 
     fn count(&self, message: u16, length: u32) -> Result<u32, Refusal> {
         if length > LONGEST {
-            return Err(refused(Reason::OutOfRange, message));
+            return Err(Place::Book.refuses(Reason::OutOfRange, message.into()));
         }
         Ok(self.find(message)?.count(length))
     }

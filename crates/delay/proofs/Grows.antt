@@ -1,8 +1,7 @@
 -- What a message needs never falls as it waits longer, so a climb from below passes over no delay.
-use Rattle.std.proofs.Common.{◌≡◌, ℕ, ◌+◌, ◌-◌, ◌/◌, ◌<◌, ◌≤◌, Bool, true, false, cond, List, [], ◌∷◌, None, ap, mul-le-mul_right, mul-le-mul_left, div-mul-le_self, arith, rules}
+use Rattle.std.proofs.Common.{◌≡◌, ℕ, ◌+◌, ◌-◌, ◌/◌, ◌<◌, ◌≤◌, Bool, true, false, cond, List, [], ◌∷◌, ap, mul-le-mul_right, mul-le-mul_left, div-mul-le_self, arith}
 use Rattle.std.specs.List.{AllByRecursion}
-use Rattle.fields.specs.Refusals.{first_reason}
-use Rattle.books.specs.Book.{Book, Lawful, question_checks}
+use Rattle.books.specs.Book.{Book, Lawful}
 use Rattle.std.proofs.lemmas.Nat.{le-div}
 use Rattle.delay.specs.Delay.{total, room, lower, more_urgent, share_of_lower, share_of_urgent, lower_load, urgent_load, blocked_cycles, needed, Meets, ListedRow, NeverFalls, OneDelay}
 use Rattle.delay.specs.declared.bus.Bus.{Bus}
@@ -55,10 +54,9 @@ module _ (bus : Bus) (lists : ℕ → Bool) (count : ℕ → ℕ → ℕ)
 
 -- The same over the state of a lawful book.
 pub climbs_on : (b : Book) → Lawful b → (s : b.State) → b.Sound s → (bus : Bus) (rows : List Row) (i : Entry)
-    → first_reason (question_checks b s i.number) ≡ None → AllByRecursion (ListedRow (b.lists s)) rows → (d n : ℕ) → n ≡ needed bus (b.count s) rows i d
+    → b.lists s i.number ≡ true → AllByRecursion (ListedRow (b.lists s)) rows → (d n : ℕ) → n ≡ needed bus (b.count s) rows i d
     → ((e : ℕ) → 1 ≤ e → Meets bus (b.count s) rows i e → d ≤ e) → (e : ℕ) → 1 ≤ e → Meets bus (b.count s) rows i e → n - 1 ≤ e
-climbs_on b lawful s sound bus rows i asked listed d n is =
-    let own : b.lists s i.number ≡ true = search rules in
+climbs_on b lawful s sound bus rows i own listed d n is =
     climbs bus (b.lists s) (b.count s) (λ m len more l h. lawful.count_grows s m len more sound l h) rows i own listed d (n - 1) (ap (λ k. k - 1) is)
 
 pub never_falls : (b : Book) → Lawful b → (s : b.State) → b.Sound s → (bus : Bus) (rows : List Row) (i : Entry) → NeverFalls bus b s rows i

@@ -1,2 +1,3 @@
 pub mod Delay
 pub mod Order
+pub mod Listed

@@ -13,6 +13,6 @@ impl Rank for Entry {
     ghost transitive = { Prim.search rules };
 
     fn is_upto(&self, other: &Entry) -> bool {
-        self.frame < other.frame || self.frame == other.frame && self.priority <= other.priority
+        (self.frame, self.priority) <= (other.frame, other.priority)
     }
 }

@@ -7,4 +7,4 @@ overflow_mul-result c =
     let x = c.args.self in
     let up = up_bound c.args.length x.window x.figures.1.0 in
     let most = mul-le-mul x.figures.0.1 up in
-    rw c.div_ceil.ensures (omega arith)
+    rw (c.div_ceil.ensures, c.from.ensures) (omega arith)
