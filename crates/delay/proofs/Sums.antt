@@ -2,7 +2,7 @@
 use Rattle.std.proofs.Common.{◌≡◌, ℕ, zero, suc, ◌+◌, ◌*◌, ◌/◌, ◌^◌, ◌<◌, ◌≤◌, List, [], ◌∷◌, length, get_or, take, sym, ap, subst, le_of_suc-le-suc, not-suc-le-zero, div-le_self, add-one, arith}
 use Rattle.std.specs.List.{AllByRecursion}
 use Rattle.std.proofs.lemmas.Nat.{mul-le}
-use Rattle.std.proofs.ByRecursion.{All-get_or, All-more}
+use Rattle.std.proofs.ByRecursion.{All-get_or}
 use Rattle.delay.specs.Delay.{total}
 
 total_next : {X : Type 0} (f : X → ℕ) (xs : List X) (i : ℕ) (d : X) → i < length xs → total f (take (suc i) xs) ≡ total f (take i xs) + f (get_or xs i d)
@@ -33,7 +33,3 @@ blocked_bound load k urgent own cycle a b c d =
 -- What holds of every element holds of one that is read.
 pub all_read : {X : Type 0} (P : X → Type 0) (xs : List X) (i : ℕ) (x : X) → i < length xs → x ≡ get_or xs i x → AllByRecursion P xs → P x
 all_read P xs i x h e all = subst P (sym e) (All-get_or P xs i x h all)
-
-pub all_step : {X : Type 0} (P : X → Type 0) (xs : List X) (i : ℕ) (x : X) → i < length xs → x ≡ get_or xs i x → AllByRecursion P (take i xs) → P x
-    → AllByRecursion P (take (i + 1) xs)
-all_step P xs i x h e all p = All-more P xs i x h all (subst P e p)

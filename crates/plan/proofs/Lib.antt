@@ -2,3 +2,4 @@ mod Lists
 mod Room
 pub mod Sheets
 pub mod Only
+mod Passing

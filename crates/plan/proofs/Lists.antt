@@ -1,31 +1,10 @@
 -- Tests over lists, one element at a time.
-use Rattle.std.proofs.Common.{◌≡◌, ℕ, zero, suc, ◌+◌, ◌<◌, Bool, true, false, ◌||◌, leb, List, [], ◌∷◌, ◌++◌, length, get_or, take, drop, set, IfSome, Some, None, Option, sym, refl, ap, ◌∙◌, le_of_suc-le-suc, not-suc-le-zero, add-one}
+use Rattle.std.proofs.Common.{◌≡◌, ℕ, zero, suc, ◌+◌, ◌<◌, Bool, true, leb, List, [], ◌∷◌, ◌++◌, length, get_or, take, drop, set, IfSome, Some, None, Option, refl, le_of_suc-le-suc, not-suc-le-zero}
 use Rattle.std.proofs.lemmas.List.{drop_more, take-append-drop}
 use Rattle.std.proofs.lemmas.Bool.{and_parts, and_from, leb-true}
 use Rattle.fields.specs.Limits.{Admitted}
 use Rattle.fields.specs.declared.limits.Field.TheVariants.{LastStart}
-use Rattle.plan.specs.Entries.{some, every, is_start_in_range}
-
-or_false : (a : Bool) → (a || false) ≡ a
-or_false true = refl
-or_false false = refl
-
-or_assoc : (a b c : Bool) → ((a || b) || c) ≡ (a || (b || c))
-or_assoc true b c = refl
-or_assoc false b c = refl
-
-some_next : {X : Type 0} (p : X → Bool) (xs : List X) (i : ℕ) (d : X) → i < length xs → some p (take (suc i) xs) ≡ (some p (take i xs) || p (get_or xs i d))
-some_next p [] i d h = absurd (not-suc-le-zero h)
-some_next p (x ∷ xs) zero d h = or_false (p x)
-some_next p (x ∷ xs) (suc i) d h = ap (λ b. p x || b) (some_next p xs i d (le_of_suc-le-suc h)) ∙ sym (or_assoc (p x) (some p (take i xs)) (p (get_or xs i d)))
-
--- The step of a loop that looks for an element.
-pub some_step : {X : Type 0} (p : X → Bool) (xs : List X) (i : ℕ) (x : X) (b c : Bool) → i < length xs → x ≡ get_or xs i x
-    → b ≡ some p (take i xs) → c ≡ p x → (b || c) ≡ some p (take (i + 1) xs)
-some_step p xs i x b c h e s t =
-    let n = some_next p xs i x h in
-    let q = ap p e in
-    rw add-one (cc)
+use Rattle.plan.specs.Entries.{every, is_start_in_range}
 
 -- A test that every element passes, after a write.
 pub every_set : {X : Type 0} (p : X → Bool) (xs : List X) (i : ℕ) (x : X) → every p xs ≡ true → p x ≡ true → every p (set xs i x) ≡ true

@@ -1,5 +1,6 @@
 -- The messages and nodes of a table, as lists.
-use Rattle.std.specs.Prelude.{ℕ, ◌+◌, Bool, true, false, not, ◌&&◌, ◌||◌, List, [], ◌∷◌, Some, None, Option, ◌==◌, nat_le, slice_index_or}
+use Rattle.std.specs.Prelude.{ℕ, ◌+◌, Bool, true, false, not, ◌&&◌, List, [], ◌∷◌, Some, None, Option, ◌==◌, nat_le, slice_index_or}
+use Rattle.std.specs.List.{list_any, list_all}
 use Rattle.fields.specs.Limits.{admitted}
 use Rattle.fields.specs.declared.limits.Field.TheVariants.{LastStart}
 use Rattle.delay.specs.Order.{by_frame}
@@ -7,12 +8,10 @@ use Rattle.delay.specs.declared.entry.Entry.{Entry}
 
 -- Some element passes the test; every element does.
 abbrev pub some : {X : Type 0} → (X → Bool) → List X → Bool
-some p [] = false
-some p (x ∷ xs) = p x || some p xs
+some p xs = list_any p xs
 
 abbrev pub every : {X : Type 0} → (X → Bool) → List X → Bool
-every p [] = true
-every p (x ∷ xs) = p x && every p xs
+every p xs = list_all p xs
 
 -- No entry stands after one that it should come before.
 abbrev pub ascends : List Entry → Bool

@@ -15,16 +15,6 @@ use fields::refusal::{MakingFault, Place, Reason, Refusal};
 use ranked::insert;
 use std::alloc::Global;
 
-fn refused(reason: Reason, concerns: u16) -> Refusal
-    ensures { result ≡ record { reason = reason; place = place.Draft; concerns = concerns } }
-{
-    Refusal {
-        reason,
-        place: Place::Draft,
-        concerns: u32::from(concerns),
-    }
-}
-
 // The bus of these figures, where they are in range and its segment ends within the cycle.
 fn bus_of(cycle: u16, offset: u16, minislot: u16, minislots: u16) -> Result<Bus, Refusal>
     ensures { Verdict (bus_checks cycle offset minislot minislots) place.Draft 0 (λ b. IsBus b cycle offset minislot minislots) result }
@@ -34,10 +24,10 @@ fn bus_of(cycle: u16, offset: u16, minislot: u16, minislots: u16) -> Result<Bus,
         && admits(Field::Minislot, u64::from(minislot))
         && admits(Field::Minislots, u64::from(minislots));
     if !in_range {
-        return Err(refused(Reason::OutOfRange, 0));
+        return Err(Place::Draft.refuses(Reason::OutOfRange, 0));
     }
     if u64::from(offset) + u64::from(minislots) * u64::from(minislot) > u64::from(cycle) {
-        return Err(refused(Reason::SegmentTooLong, 0));
+        return Err(Place::Draft.refuses(Reason::SegmentTooLong, 0));
     }
     Ok(Bus {
         cycle,
@@ -45,37 +35,6 @@ fn bus_of(cycle: u16, offset: u16, minislot: u16, minislots: u16) -> Result<Bus,
         minislot,
         minislots,
     })
-}
-
-// Which of a message's figures the draft's entries already have.
-#[derive(Clone, Copy)]
-struct Clashes {
-    number: bool,
-    // the frame, at another node
-    frame: bool,
-    // the frame and the priority
-    priority: bool,
-}
-
-fn clashes_of(entries: &[Entry], message: &Message) -> Clashes
-    ensures number { result.number ≡ some (numbered message.now.number) entries.now }
-    ensures frame { result.frame ≡ some (of_another_node message.now) entries.now }
-    ensures priority { result.priority ≡ some (as_urgent message.now) entries.now }
-{
-    let mut number = false;
-    let mut frame = false;
-    let mut priority = false;
-    for e in entries {
-        let same_frame = e.frame == message.frame;
-        number = number | (e.number == message.number);
-        frame = frame | (same_frame & (e.node != message.node));
-        priority = priority | (same_frame & (e.priority == message.priority));
-    }
-    Clashes {
-        number,
-        frame,
-        priority,
-    }
 }
 
 fn all_in_range(m: &Message) -> bool
@@ -119,11 +78,11 @@ impl Draft {
         if !(admits(Field::Node, u64::from(number))
             && admits(Field::LastStart, u64::from(latest)))
         {
-            return Err(refused(Reason::OutOfRange, number));
+            return Err(Place::Draft.refuses(Reason::OutOfRange, number.into()));
         }
         let at = usize::from(number);
         if self.nodes[at].is_some() {
-            return Err(refused(Reason::NumberUsed, number));
+            return Err(Place::Draft.refuses(Reason::NumberUsed, number.into()));
         }
         self.nodes[at] = Some(latest);
         Ok(())
@@ -138,6 +97,28 @@ impl Draft {
         self.nodes[usize::from(node)]
     }
 
+    fn has_number(&self, number: u16) -> bool
+        ensures { result ≡ some (numbered number) (entries_of self.now) }
+    {
+        self.entries.iter().any(|e| e.number == number)
+    }
+
+    // Whether the draft has the message's frame, at another node.
+    fn has_frame_elsewhere(&self, message: &Message) -> bool
+        ensures { result ≡ some (of_another_node message.now) (entries_of self.now) }
+    {
+        self.entries
+            .iter()
+            .any(|e| e.frame == message.frame && e.node != message.node)
+    }
+
+    // Whether the draft has the message's priority in its frame.
+    fn has_priority(&self, message: &Message) -> bool
+        ensures { result ≡ some (as_urgent message.now) (entries_of self.now) }
+    {
+        self.entries.iter().any(|e| e.frame == message.frame && e.priority == message.priority)
+    }
+
     // The entry of a message, with the last start of its node; or the reason that the message is refused for.
     fn entry_of(&self, message: &Message) -> Result<Entry, Reason>
         ensures { MatchResult result (λ e. (first_reason (message_checks self.now message.now) ≡ None) × Describes message.now (latest_start_of self.now message.now.node) e) (λ n. first_reason (message_checks self.now message.now) ≡ Some n) }
@@ -145,17 +126,16 @@ impl Draft {
         if !all_in_range(message) {
             return Err(Reason::OutOfRange);
         }
-        let clashes = clashes_of(self.entries.as_slice(), message);
-        if clashes.number {
+        if self.has_number(message.number) {
             return Err(Reason::NumberUsed);
         }
         let Some(latest) = self.latest_of(message.node) else {
             return Err(Reason::NodeUnknown);
         };
-        if clashes.frame {
+        if self.has_frame_elsewhere(message) {
             return Err(Reason::FrameOfAnotherNode);
         }
-        if clashes.priority {
+        if self.has_priority(message) {
             return Err(Reason::PriorityUsed);
         }
         if latest + message.size - 1 > self.bus.minislots {
@@ -180,13 +160,13 @@ impl Draft {
         ensures verdict { Verdict (message_checks self.old message) place.Draft message.number (λ _. MessageAdded self.old self.new message) result }
         ensures refused { OnErr result (self.new ≡ self.old) }
     {
-        let entry = match self.entry_of(&message) {
-            Ok(entry) => entry,
-            Err(reason) => return Err(refused(reason, message.number)),
+        let entry = self.entry_of(&message).map_err(|reason| Place::Draft.refuses(
+            reason,
+            message.number.into(),
+        ))?;
+        let Ok(()) = insert(&mut self.entries, entry) else {
+            unreachable()
         };
-        match insert(&mut self.entries, entry) {
-            Ok(()) => Ok(()),
-            Err(_) => unreachable(),
-        }
+        Ok(())
     }
 }

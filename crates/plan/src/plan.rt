@@ -40,15 +40,11 @@ pub struct PlanRefused<B> {
 
 // The plan of a draft, or draft and book again.
 fn planned<B: ReleaseBook>(draft: Draft, heap: Global, book: B) -> Result<Plan<B>, PlanRefused<B>>
-    ensures planned { MatchResult result (λ p. Planned B.ReleaseBook.book B.ReleaseBook.meaning draft book p) (λ e. NotPlanned B.ReleaseBook.book B.ReleaseBook.meaning draft book e) }
-    ensures listed { IfOk result (λ p. AllByRecursion (Listed B.ReleaseBook.book (B.ReleaseBook.meaning book)) (entries_of draft)) }
+    ensures planned { MatchResult result (λ p. Planned B.book B.meaning draft book p) (λ e. NotPlanned B.book B.meaning draft book e) }
+    ensures listed { IfOk result (λ p. AllByRecursion (Listed B.book (B.meaning book)) (entries_of draft)) }
 {
     if let Some(number) = first_unlisted(draft.entries.as_slice(), &book) {
-        let refusal = Refusal {
-            reason: Reason::NotInBook,
-            place: Place::Plan,
-            concerns: u32::from(number),
-        };
+        let refusal = Place::Plan.refuses(Reason::NotInBook, number.into());
         let fault = MakingFault::Refused(refusal);
         return Err(PlanRefused { draft, book, fault });
     }
@@ -65,9 +61,9 @@ fn planned<B: ReleaseBook>(draft: Draft, heap: Global, book: B) -> Result<Plan<B
 impl Draft {
     // The plan of this draft over a release book. Refused, draft and book come back as they were.
     pub fn into_plan<B: ReleaseBook>(self, heap: Global, book: B) -> Result<Plan<B>, PlanRefused<B>>
-        ensures planned { MatchResult result (λ p. Planned B.ReleaseBook.book B.ReleaseBook.meaning self book p) (λ e. NotPlanned B.ReleaseBook.book B.ReleaseBook.meaning self book e) }
-        ensures listed { IfOk result (λ p. AllByRecursion (Listed B.ReleaseBook.book (B.ReleaseBook.meaning book)) (entries_of self)) }
-        ensures only { OneSheet self.bus B.ReleaseBook.book (B.ReleaseBook.meaning book) (entries_of self) }
+        ensures planned { MatchResult result (λ p. Planned B.book B.meaning self book p) (λ e. NotPlanned B.book B.meaning self book e) }
+        ensures listed { IfOk result (λ p. AllByRecursion (Listed B.book (B.meaning book)) (entries_of self)) }
+        ensures only { OneSheet self.bus B.book (B.meaning book) (entries_of self) }
     {
         planned(self, heap, book)
     }

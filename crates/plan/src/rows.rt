@@ -14,14 +14,12 @@ use std::alloc::Global;
 
 // The number of the first message that the book does not list.
 pub(crate) fn first_unlisted<B: ReleaseBook>(entries: &[Entry], releases: &B) -> Option<u16>
-    ensures { MatchOption result (AllByRecursion (Listed B.ReleaseBook.book (B.ReleaseBook.meaning releases.now)) entries.now) (λ n. FirstUnlisted B.ReleaseBook.book (B.ReleaseBook.meaning releases.now) entries.now n) }
+    ensures { MatchOption result (AllByRecursion (Listed B.book (B.meaning releases.now)) entries.now) (λ n. FirstUnlisted B.book (B.meaning releases.now) entries.now n) }
 {
-    for e in entries {
-        if !releases.lists(e.number) {
-            return Some(e.number);
-        }
-    }
-    None
+    entries
+        .iter()
+        .map(|e| e.number)
+        .find(|number| !releases.lists(*number))
 }
 
 // The row of a message, after those of all messages that come before it.
@@ -31,7 +29,7 @@ fn row_of<B: ReleaseBook>(
     message: &Entry,
     releases: &B,
 ) -> Result<Row, Refusal>
-    ensures { MatchResult result (λ row. (row.entry ≡ message.now) × RowOf bus.now B.ReleaseBook.book (B.ReleaseBook.meaning releases.now) rows.now row) (λ e. Unlisted (B.ReleaseBook.book.lists (B.ReleaseBook.meaning releases.now)) rows.now message.now e ⊎ NoneWithin bus.now B.ReleaseBook.book (B.ReleaseBook.meaning releases.now) rows.now message.now e) }
+    ensures { MatchResult result (λ row. (row.entry ≡ message.now) × RowOf bus.now B.book (B.meaning releases.now) rows.now row) (λ e. Unlisted (B.book.lists (B.meaning releases.now)) rows.now message.now e ⊎ NoneWithin bus.now B.book (B.meaning releases.now) rows.now message.now e) }
 {
     let delay = least_delay(bus, rows, message, releases)?;
     let Ok(jitter) = releases.jitter(message.number) else {
@@ -52,8 +50,8 @@ pub(crate) fn rows_of<B: ReleaseBook>(
     releases: &B,
 ) -> Result<Vec<Row>, MakingFault>
     requires order { ascends entries.now ≡ true }
-    requires listed { AllByRecursion (Listed B.ReleaseBook.book (B.ReleaseBook.meaning releases.now)) entries.now }
-    ensures { MatchResult result (λ rows. Sheet bus.now B.ReleaseBook.book (B.ReleaseBook.meaning releases.now) entries.now rows.items) (SheetFault bus.now B.ReleaseBook.book (B.ReleaseBook.meaning releases.now) entries.now) }
+    requires listed { AllByRecursion (Listed B.book (B.meaning releases.now)) entries.now }
+    ensures { MatchResult result (λ rows. Sheet bus.now B.book (B.meaning releases.now) entries.now rows.items) (SheetFault bus.now B.book (B.meaning releases.now) entries.now) }
 {
     let mut rows = Vec::with_capacity(heap, entries.len())?;
     for e in entries {

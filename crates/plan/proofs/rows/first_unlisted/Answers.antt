@@ -1,28 +1,34 @@
-use Rattle.std.proofs.Common.{◌+◌, take, drop, sym, refl, arith, take_all}
-use Rattle.delay.proofs.Sums.{all_step}
-use Rattle.plan.specs.Sheets.{Listed}
-use Rattle.plan.proofs.Lists.{split_read}
+use Rattle.std.proofs.Common.{◌≡◌, ℕ, true, false, List, Some, None, Option, rules}
+use Rattle.std.specs.Option as options
+use Rattle.std.specs.List.{AllByRecursion}
+use Rattle.std.proofs.lemmas.Iterator.{first_from_find, YieldsList-from_slice, YieldsList-from_map}
+use Rattle.books.specs.Book.{Book}
+use Rattle.delay.proofs.Found.{FirstOut, found}
+use Rattle.delay.specs.declared.entry.Entry.{Entry}
+use Rattle.plan.specs.Sheets.{Listed, FirstUnlisted}
 use Rattle.plan.proofs.rows.first_unlisted.Goals as goal
 
-pub returns-then-not-lists : goal.returns-then-not-lists
-returns-then-not-lists g c =
-    let xs = c.args.entries.now in
-    let i = c.loop-e.e-index in
-    record {
-      front = take i xs;
-      entry = c.e-item.result;
-      back = drop (i + 1) xs;
-      parts = split_read xs i c.e-item.result c.loop-e-test.true c.e-item.is;
-      before = c.loop-e.invariant.1;
-      here = sym c.if-not-lists.ensures;
-      concerns = refl;
-    }
-
-pub loop-e-preserved : goal.loop-e-preserved
-loop-e-preserved g c =
-    let s = g.B.ReleaseBook.meaning c.args.releases.now in
-    let yes : Listed g.B.ReleaseBook.book s c.e-item.result = sym c.if-not-lists.ensures in
-    (omega arith, all_step (Listed g.B.ReleaseBook.book s) c.args.entries.now c.loop-e.e-index c.e-item.result c.loop-e-test.true c.e-item.is c.loop-e.invariant.1 yes)
+first_of : (b : Book) (s : b.State) (entries : List Entry) (o : Option ℕ)
+    → options.MatchOption o (AllByRecursion (Listed b s) entries) (FirstOut (b.lists s) (λ e. e.number) entries)
+    → options.MatchOption o (AllByRecursion (Listed b s) entries) (FirstUnlisted b s entries)
+first_of b s entries None all = all
+first_of b s entries (Some n) f = record {
+  front = f.front;
+  entry = f.here;
+  back = f.back;
+  parts = f.parts;
+  before = f.before;
+  here = f.out;
+  concerns = f.named;
+}
 
 pub returns : goal.returns
-returns g c = rw (take_all c.loop-e.e-index c.args.entries.now c.loop-e-test.false) at c.loop-e.invariant.1
+returns g c =
+    let book = g.B.ReleaseBook.book in
+    let s = g.B.ReleaseBook.meaning c.args.releases.now in
+    let entries = c.args.entries.now in
+    let numbers = YieldsList-from_map _ (λ e. e.number) (YieldsList-from_slice entries (search rules)) (search rules) (λ x r q k. search rules) in
+    first_of book s entries c.find.result
+    (found (book.lists s) (λ e. e.number) entries c.find.result
+    (first_from_find _ _ c.find.result (λ n. book.lists s n ≡ false) (λ n. book.lists s n ≡ true) c.find.ensures.ran numbers
+    (λ x q k. search rules) (λ x q k. search rules)))
