@@ -160,10 +160,10 @@ impl Draft {
         ensures verdict { Verdict (message_checks self.old message) place.Draft message.number (λ _. MessageAdded self.old self.new message) result }
         ensures refused { OnErr result (self.new ≡ self.old) }
     {
-        let entry = self.entry_of(&message).map_err(|reason| Place::Draft.refuses(
-            reason,
-            message.number.into(),
-        ))?;
+        let concerns = message.number.into();
+        let entry = self
+            .entry_of(&message)
+            .map_err(|reason| Place::Draft.refuses(reason, concerns))?;
         let Ok(()) = insert(&mut self.entries, entry) else {
             unreachable()
         };
