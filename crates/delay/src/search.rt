@@ -21,6 +21,13 @@ fn unlisted<B: ReleaseBook>(rows: &[Row], releases: &B) -> Option<u16>
         .find(|number| !releases.lists(*number))
 }
 
+// How long a message waits: no longer than a deadline can be.
+#[derive(Clone, Copy)]
+struct Wait {
+    time: u32,
+    ghost short: { time ≤ highest field.Deadline },
+}
+
 // What other messages can put in the way: minislots of lower frames, and sendings of the message's own frame.
 #[derive(Clone, Copy)]
 struct Loads {
@@ -62,36 +69,33 @@ impl<'a, B: ReleaseBook> Search<'a, B> {
     }
 
     // The minislots that one row of a lower frame can take.
-    fn lower_share(&self, row: &Row, d: u32) -> u64
+    fn lower_share(&self, row: &Row, d: Wait) -> u64
         requires listed { ListedRow (B.book.lists (B.meaning self.now.releases.now)) row.now }
-        requires short { d ≤ highest field.Deadline }
-        ensures value { result ≡ share_of_lower self.now.bus.now (B.book.count (B.meaning self.now.releases.now)) self.now.message.now d row.now }
+        ensures value { result ≡ share_of_lower self.now.bus.now (B.book.count (B.meaning self.now.releases.now)) self.now.message.now d.time row.now }
         ensures bound { result < 4000000000000 }
     {
         if row.entry.frame >= self.message.frame {
             return 0;
         }
-        let count = self.count(row.entry.number, d + row.delay + self.lead());
+        let count = self.count(row.entry.number, d.time + row.delay + self.lead());
         u64::from(row.entry.size - 1) * u64::from(count)
     }
 
     // The sendings of one row, where it is a more urgent message of the same frame.
-    fn urgent_share(&self, row: &Row, d: u32) -> u64
+    fn urgent_share(&self, row: &Row, d: Wait) -> u64
         requires listed { ListedRow (B.book.lists (B.meaning self.now.releases.now)) row.now }
-        requires short { d ≤ highest field.Deadline }
-        ensures value { result ≡ share_of_urgent (B.book.count (B.meaning self.now.releases.now)) self.now.message.now d row.now }
+        ensures value { result ≡ share_of_urgent (B.book.count (B.meaning self.now.releases.now)) self.now.message.now d.time row.now }
         ensures bound { result < 4000000000000 }
     {
         if row.entry.frame != self.message.frame || row.entry.priority >= self.message.priority {
             return 0;
         }
-        u64::from(self.count(row.entry.number, d + row.delay))
+        u64::from(self.count(row.entry.number, d.time + row.delay))
     }
 
-    fn loads(&self, d: u32) -> Loads
-        requires short { d ≤ highest field.Deadline }
-        ensures lower { result.lower ≡ lower_load self.now.bus.now (B.book.count (B.meaning self.now.releases.now)) self.now.rows.now self.now.message.now d }
-        ensures urgent { result.urgent ≡ urgent_load (B.book.count (B.meaning self.now.releases.now)) self.now.rows.now self.now.message.now d }
+    fn loads(&self, d: Wait) -> Loads
+        ensures lower { result.lower ≡ lower_load self.now.bus.now (B.book.count (B.meaning self.now.releases.now)) self.now.rows.now self.now.message.now d.time }
+        ensures urgent { result.urgent ≡ urgent_load (B.book.count (B.meaning self.now.releases.now)) self.now.rows.now self.now.message.now d.time }
         ensures bound { (result.lower < 2 ^ 106) × (result.urgent < 2 ^ 106) }
     {
         let mut lower: u128 = 0;
@@ -104,13 +108,12 @@ impl<'a, B: ReleaseBook> Search<'a, B> {
     }
 
     // One macrotick more than the message needs at most while it waits d.
-    fn need(&self, d: u32) -> u128
-        requires short { d ≤ highest field.Deadline }
-        ensures value { result ≡ needed self.now.bus.now (B.book.count (B.meaning self.now.releases.now)) self.now.rows.now self.now.message.now d }
+    fn need(&self, d: Wait) -> u128
+        ensures value { result ≡ needed self.now.bus.now (B.book.count (B.meaning self.now.releases.now)) self.now.rows.now self.now.message.now d.time }
         ensures positive { 2 ≤ result }
     {
         let loads = self.loads(d);
-        let own = self.count(self.message.number, d);
+        let own = self.count(self.message.number, d.time);
         let room = u128::from(self.message.latest - self.message.frame) + 1;
         let blocked = loads.lower / room + loads.urgent + u128::from(own).saturating_sub(1);
         let minislots = room - 1 + u128::from(self.message.size);
@@ -127,7 +130,7 @@ impl<'a, B: ReleaseBook> Search<'a, B> {
     {
         let mut waits: u32 = 1;
         let delay = 'rounds: loop {
-            let needed = self.need(waits) - 1;
+            let needed = self.need(Wait { time: waits }) - 1;
             if needed > u128::from(limit) {
                 return None;
             }
