@@ -50,6 +50,7 @@ impl<L: ReleaseBook, R: ReleaseBook> JointBook<L, R> {
     }
 }
 
+// The questions differ in the method that they ask of a side: a closure in its place would be longer than the call.
 impl<L: ReleaseBook, R: ReleaseBook> ReleaseBook for JointBook<L, R> {
     ghost book = { joined L.book R.book };
 

@@ -38,7 +38,7 @@ pub struct Limits {
     pub high: u64,
 }
 
-// By field, in the order of the enum.
+// By field, in the order of the enum: one constant table, which all layers consult.
 const LIMITS: [Limits; 16] = [
     Limits {
         low: 10,

@@ -52,6 +52,7 @@ pub enum Place {
 }
 
 impl Place {
+    // The name. A Display could fail, and this cannot.
     pub fn name(self) -> &'static str
         ensures { result.now ≡ name_of self }
     {

@@ -21,7 +21,7 @@ pub struct Plan<B> {
     pub(crate) book: B,
 }
 
-// What a plan is made of, taken apart.
+// What a plan is made of, taken apart: a plan with open fields could be made by hand.
 #[derive(Drop)]
 pub struct PlanParts<B> {
     pub bus: Bus,

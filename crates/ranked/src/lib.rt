@@ -4,7 +4,7 @@
 ghost use Rattle.std.specs.Prelude.{◌≡◌, ℕ, ◌<◌, ◌≤◌, Bool, true, false, length, is_ok, vec_len, vec_capacity, MatchResult, nat_lt, slice_index_or};
 ghost use Rattle.ranked.specs.Ranks.{Placed, Ascending};
 
-// An element with a rank. The order is total: two elements may have equal ranks.
+// An element with a rank. The order is total. It is not the library's Ord, by which elements of equal rank would be equal.
 pub trait Rank {
     // whether the first element's rank is not above the second's
     ghost upto: { Self → Self → Bool };

@@ -10,7 +10,8 @@ pub struct WindowRow {
     pub window: u32,
     // the time of the last release
     pub last: u64,
-    // when the windows end that the last sixteen releases began, newest first: 0 where there was none
+    // when the windows end that the last sixteen releases began, newest first: 0 where there was none, which is what E takes
+    // then, so that an Option would be turned into 0 wherever it is read
     pub ends: [u64; 16],
     // all are in range, so that sums of them fit
     ghost figures: { Admitted Releases releases × Admitted Window window × Admitted Time last },
