@@ -5,7 +5,6 @@ use Rattle.std.proofs.lemmas.Bool.{ltb-false, ne_eqb, cond-false, cases_lt, both
 use Rattle.fields.specs.Limits.{Admitted, highest}
 use Rattle.fields.specs.declared.limits.Field.TheVariants.{Frame}
 use Rattle.books.specs.Book.{Lawful, Fresh}
-use Rattle.buffers.specs.Buffer.{meant}
 use Rattle.delay.specs.Delay.{total}
 use Rattle.delay.specs.declared.entry.Row.{Row}
 use Rattle.plan.specs.Plans.{rows_of}
@@ -58,20 +57,20 @@ at_plan k p buffer P rows book same_rows same_book found proper =
 
 module _ {B S : Type 0} (k : Kinds B S) (lawful : Lawful k.book) (x : Bench B S)
     (table : SoundTable x.bus k.book (k.meaning x.book) (rows_in x))
-    (ready : Ready k.book (k.meaning x.book) (rows_in x) (meant k.places k.waiting x.buffer))
+    (ready : Ready k.book (k.meaning x.book) (rows_in x) (k.buffer x.buffer))
     (book-sound : k.book.Sound (k.meaning x.book))
-    (room : (f : ℕ) → length (k.waiting x.buffer f) ≤ k.places x.buffer f)
-    (outside : (f : ℕ) → (Admitted Frame f → ⊥) → k.places x.buffer f ≡ 0) where
-  nothing_waits : (f : ℕ) → k.waiting x.buffer f ≡ []
+    (room : (f : ℕ) → length ((k.buffer x.buffer).waiting f) ≤ (k.buffer x.buffer).places f)
+    (outside : (f : ℕ) → (Admitted Frame f → ⊥) → (k.buffer x.buffer).places f ≡ 0) where
+  nothing_waits : (f : ℕ) → (k.buffer x.buffer).waiting f ≡ []
   nothing_waits f =
-      by_range (λ f. k.waiting x.buffer f ≡ []) f
-      (λ inside. no_more (k.waiting x.buffer f) (ltb-false 0 (length (k.waiting x.buffer f)) (ready.empty f inside)))
-      (λ off. no_more (k.waiting x.buffer f) (omega (arith, room f, outside f off)))
+      by_range (λ f. (k.buffer x.buffer).waiting f ≡ []) f
+      (λ inside. no_more ((k.buffer x.buffer).waiting f) (ltb-false 0 (length ((k.buffer x.buffer).waiting f)) (ready.empty f inside)))
+      (λ off. no_more ((k.buffer x.buffer).waiting f) (omega (arith, room f, outside f off)))
 
-  enough : (f : ℕ) → needs (k.book.count (k.meaning x.book)) (rows_in x) f ≤ k.places x.buffer f
+  enough : (f : ℕ) → needs (k.book.count (k.meaning x.book)) (rows_in x) f ≤ (k.buffer x.buffer).places f
   enough f =
-      by_range (λ f. needs (k.book.count (k.meaning x.book)) (rows_in x) f ≤ k.places x.buffer f) f
-      (λ inside. ltb-false (k.places x.buffer f) (needs (k.book.count (k.meaning x.book)) (rows_in x) f) (ready.places f inside))
+      by_range (λ f. needs (k.book.count (k.meaning x.book)) (rows_in x) f ≤ (k.buffer x.buffer).places f) f
+      (λ inside. ltb-false ((k.buffer x.buffer).places f) (needs (k.book.count (k.meaning x.book)) (rows_in x) f) (ready.places f inside))
       (λ off. omega (arith, outside_needs (k.book.count (k.meaning x.book)) (rows_in x) f off))
 
   fresh : Fresh k.book (k.meaning x.book)
@@ -98,11 +97,11 @@ module _ {B S : Type 0} (k : Kinds B S) (lawful : Lawful k.book) (x : Bench B S)
 
 -- The bench of a plan and a buffer.
 pub bench_of : {B S : Type 0} (k : Kinds B S) → Lawful k.book → (p : Plan B) (x : Bench B S) → ((y : B) → k.book.Sound (k.meaning y))
-    → ((f : ℕ) → k.sound x.buffer → length (k.waiting x.buffer f) ≤ k.places x.buffer f)
-    → ((f : ℕ) → k.sound x.buffer → (Admitted Frame f → ⊥) → k.places x.buffer f ≡ 0) → x.bus ≡ p.bus → rows_in x ≡ rows_of p
+    → ((f : ℕ) → k.sound x.buffer → length ((k.buffer x.buffer).waiting f) ≤ (k.buffer x.buffer).places f)
+    → ((f : ℕ) → k.sound x.buffer → (Admitted Frame f → ⊥) → (k.buffer x.buffer).places f ≡ 0) → x.bus ≡ p.bus → rows_in x ≡ rows_of p
     → x.book ≡ p.book
     → x.position ≡ record { cycle = 0; minislot = 1; slot = 1 } → x.released ≡ None → x.started ≡ None
-    → (Proper k p x.buffer → Ready k.book (k.meaning p.book) (rows_of p) (meant k.places k.waiting x.buffer))
+    → (Proper k p x.buffer → Ready k.book (k.meaning p.book) (rows_of p) (k.buffer x.buffer))
     → vec_items x.starts ≡ map (last_start_of (rows_of p)) (range_with_len 0 2048) → vec_items x.sizes ≡ map (size_of (rows_of p)) (range_with_len 0 129)
     → BenchOf k p x.buffer x
 bench_of k lawful p x sound room outside bus rows book position released started ready starts sizes = record {
@@ -114,7 +113,7 @@ bench_of k lawful p x sound room outside bus rows book position released started
   no_release = released;
   no_run = started;
   begun = λ proper.
-      let m = meant k.places k.waiting x.buffer in
+      let m = k.buffer x.buffer in
       let planned = sound_table k.book k.meaning proper.draft proper.book p proper.planned proper.listed in
       let at-bus = subst (λ b. SoundTable b k.book (k.meaning p.book) (rows_of p)) (sym bus) planned in
       let at-book = subst (λ b. SoundTable x.bus k.book (k.meaning b) (rows_of p)) (sym book) at-bus in

@@ -1,5 +1,6 @@
 -- What the code of a call has found out, and the step of the rules that it has made then.
-use Rattle.std.proofs.Common.{◌≡◌, ℕ, ◌≤◌, true, false, cond, ltb, leb, List, length, get_or, is_some, Some, None, Ok, Err, vec_items, Option, sym, refl, ap, ◌∙◌, subst, arith}
+use Rattle.std.proofs.Common.{◌≡◌, ℕ, ◌≤◌, true, false, cond, ltb, leb, List, length, get_or, is_some, Some, None, Ok, Err, vec_items, Option, Result, sym, refl, ap, ◌∙◌, subst, arith}
+use Rattle.std.specs.Result as results
 use Rattle.std.proofs.lemmas.Bool.{le-leb, and_from, ne_eqb}
 use Rattle.fields.specs.Limits.{Admitted, admitted, lowest, highest}
 use Rattle.fields.specs.Refusals.{first_reason, RefusedFor}
@@ -10,9 +11,9 @@ use Rattle.fields.specs.declared.refusal.Reason.{Reason}
 use Rattle.fields.specs.declared.refusal.Reason.TheVariants.{NotListed, TimeNotAllowed, TooEarly}
 use Rattle.fields.specs.declared.refusal.Refusal.{Refusal}
 use Rattle.ranked.specs.Ranks.{Placed}
-use Rattle.books.specs.Book.{Lawful}
+use Rattle.books.specs.Book.{Lawful, Released}
 use Rattle.books.specs.Book as books
-use Rattle.buffers.specs.Buffer.{meant, put_checks, Elsewhere}
+use Rattle.buffers.specs.Buffer.{put_checks, Elsewhere, Putting}
 use Rattle.buffers.specs.declared.instance.Instance.{Instance}
 use Rattle.delay.specs.declared.entry.Row.{Row}
 use Rattle.slots.specs.Rows.{row_of}
@@ -37,15 +38,15 @@ module _ {B S : Type 0} (k : Kinds B S) (lawful : Lawful k.book) (from : State k
     (course : Course k from past x) where
   pub slot_ran : (r : SlotReport) (o : Option Instance) (n : ℕ) (buffer : S) (p : Position) (start : ℕ) → first_reason (run_checks x.position) ≡ None
       → TakenIf (leb x.position.minislot (get_or (vec_items x.starts) x.position.slot 0))
-      (meant k.places k.waiting x.buffer) x.position.slot o
-      (meant k.places k.waiting buffer)
+      (k.buffer x.buffer) x.position.slot o
+      (k.buffer buffer)
       → k.sound buffer → start ≡ clock x.bus x.position → r.cycle ≡ x.position.cycle → r.slot ≡ x.position.slot → r.start ≡ start
       → r.sent ≡ sent_from x.bus (rows_in x) start o → n ≡ used (rows_in x) o
       → (x.position.cycle ≤ cycles → x.position.slot ≤ x.bus.minislots → p ≡ onward x.bus x.position n)
       → Promised k from past x call.SlotRun (answer.Ran (Ok r)) (moved x x.book buffer p x.released (Some start))
   slot_ran r o n buffer p start runs taken sound at cycle slot begins sent size on =
       let at-start = order k lawful from past x course in
-      let ws = k.waiting x.buffer x.position.slot in
+      let ws = (k.buffer x.buffer).waiting x.position.slot in
       let last = start_read (rows_in x) (vec_items x.starts) course.starts x.position.slot in
       let took : o ≡ sends (rows_in x) x.position ws = taken.first ∙ ap (λ a. cond (leb x.position.minislot a) (head ws) None) last in
       goes_on k lawful from past x course call.SlotRun (answer.Ran (Ok r)) x.book buffer p x.released (Some start) sound taken.others.places
@@ -119,7 +120,7 @@ module _ {B S : Type 0} (k : Kinds B S) (lawful : Lawful k.book) (from : State k
         let why : first_reason (release_checks x.bus (rows_in x) k.book (state_of k x) m t) ≡ Some TimeNotAllowed = rw (sym row, sym late) in
         refused_so e (why ∙ ap (λ r. Some r.reason) (sym is), ap (λ r. r.place) is, ap (λ r. r.concerns) is) x.book refl
 
-    pub too_early : (e : Refusal) (why : Reason) → e ≡ record { reason = why; place = place.Bench; concerns = m } → (i : Row)
+    too_early : (e : Refusal) (why : Reason) → e ≡ record { reason = why; place = place.Bench; concerns = m } → (i : Row)
         → Some i ≡ row_of (rows_in x) m
         → true ≡ allowed x.bus x.position x.released x.started t → first_reason
         (books.release_checks k.book (k.meaning x.book) m t) ≡ Some why
@@ -134,9 +135,9 @@ module _ {B S : Type 0} (k : Kinds B S) (lawful : Lawful k.book) (from : State k
         ) book same
 
     -- a release that the book accepts finds a place
-    pub not_full : (i : Row) → Some i ≡ row_of (rows_in x) m → true ≡ allowed x.bus x.position x.released x.started t
+    not_full : (i : Row) → Some i ≡ row_of (rows_in x) m → true ≡ allowed x.bus x.position x.released x.started t
         → first_reason (books.release_checks k.book (k.meaning x.book) m t) ≡ None
-        → first_reason (put_checks (meant k.places k.waiting x.buffer) i.entry.frame
+        → first_reason (put_checks (k.buffer x.buffer) i.entry.frame
         (record { message = m; priority = i.entry.priority; release = t })) ≡ None
     not_full i row ok says =
         let at = order k lawful from past x course in
@@ -149,17 +150,17 @@ module _ {B S : Type 0} (k : Kinds B S) (lawful : Lawful k.book) (from : State k
         let c = admitted_test Message m (lawful.listed (k.meaning x.book) m at.sound (at.listed m here)) in
         let d = admitted_test Priority i.entry.priority i.entry.priority_in in
         let e = admitted_test Time t (times ok) in
-        let f = ne_eqb (length (k.waiting x.buffer i.entry.frame)) (k.places x.buffer i.entry.frame)
+        let f = ne_eqb (length ((k.buffer x.buffer).waiting i.entry.frame)) ((k.buffer x.buffer).places i.entry.frame)
         (λ same. omega (arith, free, most, same)) in
         rw (a, c, d, e, f)
 
-    pub accepted : (i : Row) → Some i ≡ row_of (rows_in x) m → true ≡ allowed x.bus x.position x.released x.started t
+    accepted : (i : Row) → Some i ≡ row_of (rows_in x) m → true ≡ allowed x.bus x.position x.released x.started t
         → first_reason (books.release_checks k.book (k.meaning x.book) m t) ≡ None → (book : B)
         → k.meaning book ≡ k.book.after (k.meaning x.book) m t
         → (buffer : S) → k.sound buffer
-        → Placed by_priority (record { message = m; priority = i.entry.priority; release = t }) (k.waiting x.buffer i.entry.frame)
-        (k.waiting buffer i.entry.frame)
-        → Elsewhere i.entry.frame (meant k.places k.waiting x.buffer) (meant k.places k.waiting buffer)
+        → Placed by_priority (record { message = m; priority = i.entry.priority; release = t }) ((k.buffer x.buffer).waiting i.entry.frame)
+        ((k.buffer buffer).waiting i.entry.frame)
+        → Elsewhere i.entry.frame (k.buffer x.buffer) (k.buffer buffer)
         → Promised k from past x (call.Release m t) (answer.Released (Ok tt)) (moved x book buffer x.position (Some t) x.started)
     accepted i row ok says book moves buffer sound placed others =
         let number = (found_row (rows_in x) m i (sym row)).1 in
@@ -172,7 +173,29 @@ module _ {B S : Type 0} (k : Kinds B S) (lawful : Lawful k.book) (from : State k
           started = refl;
           book = moves ∙ ap (λ n. k.book.after (k.meaning x.book) n t) (sym number);
           placed = subst (λ (n : ℕ). Placed by_priority (record { message = n; priority = i.entry.priority; release = t })
-              (k.waiting x.buffer i.entry.frame)
-              (k.waiting buffer i.entry.frame)) (sym number) placed;
+              ((k.buffer x.buffer).waiting i.entry.frame)
+              ((k.buffer buffer).waiting i.entry.frame)) (sym number) placed;
           others = others.waiting;
         }))
+
+    -- what the buffer answers then
+    pub released : (i : Row) → Some i ≡ row_of (rows_in x) m → true ≡ allowed x.bus x.position x.released x.started t
+        → first_reason (books.release_checks k.book (k.meaning x.book) m t) ≡ None → (book : B)
+        → k.meaning book ≡ k.book.after (k.meaning x.book) m t
+        → (buffer : S) → k.sound buffer → (r : Result Unit Refusal)
+        → Putting (k.buffer x.buffer) i.entry.frame (record { message = m; priority = i.entry.priority; release = t }) r (k.buffer buffer)
+        → Promised k from past x (call.Release m t) (answer.Released r) (moved x book buffer x.position (Some t) x.started)
+    released i row ok says book moves buffer sound (Ok u) put = accepted i row ok says book moves buffer sound put.verdict.1 put.others
+    released i row ok says book moves buffer sound (Err e) put =
+        let free = not_full i row ok says in
+        let full = put.verdict.0 in
+        let z : ◌≡◌ {A = ℕ} 0 1 = cc in
+        absurd (omega arith)
+
+    -- what the book answers where it refuses
+    pub refused_by_book : (i : Row) → Some i ≡ row_of (rows_in x) m → true ≡ allowed x.bus x.position x.released x.started t
+        → (book : B) (r : Result Unit Refusal) → Released k.book (k.meaning x.book) m t r (k.meaning book) → (e : Refusal)
+        → results.MatchResult r (λ _. ⊥) (λ d. e ≡ record { reason = d.reason; place = place.Bench; concerns = m })
+        → Promised k from past x (call.Release m t) (answer.Released (Err e)) (moved x book x.buffer x.position x.released x.started)
+    refused_by_book i row ok book (Ok u) says e is = absurd is
+    refused_by_book i row ok book (Err d) says e is = too_early e d.reason is i row ok says.0.0 book says.1

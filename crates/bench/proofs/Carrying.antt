@@ -23,7 +23,7 @@ pub record SoFar {B S : Type 0} (k : Kinds B S) (x : Bench B S) (cs : List Call)
   pub same_bus : y.bus ≡ x.bus
   pub same_rows : rows_in y ≡ rows_in x
   pub course : (from : State k.book) (past : List Answered) → Course k from past x → Course k from (followed past cs given) y
-  pub places : (from : State k.book) (past : List Answered) → Course k from past x → (f : ℕ) → k.places y.buffer f ≡ k.places x.buffer f
+  pub places : (from : State k.book) (past : List Answered) → Course k from past x → (f : ℕ) → (k.buffer y.buffer).places f ≡ (k.buffer x.buffer).places f
 
 pub none_yet : {B S : Type 0} (k : Kinds B S) (x : Bench B S) → SoFar k x [] [] x
 none_yet k x = record { same_bus = refl; same_rows = refl; course = λ from past course. course; places = λ from past course f. refl }

@@ -32,7 +32,7 @@ module _ {B S : Type 0} (k : Kinds B S) (lawful : Lawful k.book) (from : State k
   order = (delays_hold k.book lawful x.bus (rows_in x) from course.set past (state_of k x) course.run).1
 
   pub goes_on : (c : Call) (a : Answer) (book : B) (buffer : S) (position : Position) (released started : Option ℕ) → k.sound buffer
-      → ((f : ℕ) → k.places buffer f ≡ k.places x.buffer f)
+      → ((f : ℕ) → (k.buffer buffer).places f ≡ (k.buffer x.buffer).places f)
       → Step x.bus (rows_in x) k.book (state_of k x) c a (state_of k (moved x book buffer position released started))
       → Promised k from past x c a (moved x book buffer position released started)
   goes_on c a book buffer position released started sound places step =

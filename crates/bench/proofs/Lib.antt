@@ -3,5 +3,6 @@ mod Courses
 mod Calls
 mod Carrying
 mod Searches
+mod Needs
 mod Plans
 mod Begins

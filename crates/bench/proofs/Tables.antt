@@ -1,16 +1,16 @@
 -- The tables of a bench: what they say at every place is what the rows say.
 use Rattle.std.proofs.Common.{◌≡◌, ℕ, ◌≤◌, Bool, false, cond, eqb, List, [], ◌∷◌, map, get_or, Some, None, sym, refl, ap, ◌∙◌, ⊎_elim, arith}
-use Rattle.std.specs.List.{range_with_len}
+use Rattle.std.specs.List.{find, range_with_len}
 use Rattle.std.proofs.lemmas.List.FromFn.{get_or-map-range_with_len, length-map-range_with_len}
 use Rattle.std.proofs.lemmas.List.{get_or_past}
 use Rattle.std.proofs.lemmas.Bool.{cases_lt, ne_eqb}
 use Rattle.delay.specs.declared.entry.Row.{Row}
-use Rattle.slots.specs.Rows.{first, size_of, size_in, last_start_of, latest_in}
+use Rattle.slots.specs.Rows.{size_of, size_in, last_start_of, latest_in}
 
 -- no row passes a test that each fails
-first_none : (p : Row → Bool) (rows : List Row) → ((r : Row) → p r ≡ false) → first p rows ≡ None
+first_none : (p : Row → Bool) (rows : List Row) → ((r : Row) → p r ≡ false) → find p rows ≡ None
 first_none p [] fails = refl
-first_none p (r ∷ rs) fails = ap (λ b. cond b (Some r) (first p rs)) (fails r) ∙ first_none p rs fails
+first_none p (r ∷ rs) fails = ap (λ b. cond b (Some r) (find p rs)) (fails r) ∙ first_none p rs fails
 
 counted : (f : ℕ → ℕ) (n d i : ℕ) → (n ≤ i → f i ≡ d) → get_or (map f (range_with_len 0 n)) i d ≡ f i
 counted f n d i past =

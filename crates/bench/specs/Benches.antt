@@ -14,16 +14,15 @@ use Rattle.slots.specs.declared.calls.Call.{Call}
 use Rattle.slots.specs.declared.calls.Answer.{Answer}
 use Rattle.bench.specs.declared.bench.Bench.{Bench}
 
--- What the values of a kind of book and of a kind of buffer mean.
+-- What the values of a kind of book and of a kind of buffer mean, and which buffers are sound.
 pub record Kinds (B S : Type 0) : Type 1 where
   pub book : Book
   pub meaning : B → book.State
-  pub places : S → ℕ → ℕ
-  pub waiting : S → ℕ → List Instance
+  pub buffer : S → Meaning
   pub sound : S → Type 0
 
-abbrev pub kinds : {B S : Type 0} (book : Book) → (B → book.State) → (S → ℕ → ℕ) → (S → ℕ → List Instance) → (S → Type 0) → Kinds B S
-kinds book meaning places waiting sound = record { book = book; meaning = meaning; places = places; waiting = waiting; sound = sound }
+abbrev pub kinds : {B S : Type 0} (book : Book) → (B → book.State) → (S → Meaning) → (S → Type 0) → Kinds B S
+kinds book meaning buffer sound = record { book = book; meaning = meaning; buffer = buffer; sound = sound }
 
 -- The rows of a bench, and the state that it is in.
 abbrev pub rows_in : {B S : Type 0} → Bench B S → List Row
@@ -35,14 +34,14 @@ state_of k x = record {
   released = x.released;
   started = x.started;
   book = k.meaning x.book;
-  waiting = k.waiting x.buffer;
+  waiting = (k.buffer x.buffer).waiting;
 }
 
 -- The past of a bench: it was set up in a state, with a sound buffer that has the places needed, and these calls with
 -- their answers, the newest first, have led it to where it stands.
 pub record Course {B S : Type 0} (k : Kinds B S) (from : State k.book) (past : List Answered) (x : Bench B S) : Type 0 where
   pub set : SetUp x.bus (rows_in x) k.book from
-  pub enough : (f : ℕ) → needs (k.book.count from.book) (rows_in x) f ≤ k.places x.buffer f
+  pub enough : (f : ℕ) → needs (k.book.count from.book) (rows_in x) f ≤ (k.buffer x.buffer).places f
   pub sound : k.sound x.buffer
   pub starts : vec_items x.starts ≡ map (last_start_of (rows_in x)) (range_with_len 0 2048)
   pub sizes : vec_items x.sizes ≡ map (size_of (rows_in x)) (range_with_len 0 129)
@@ -54,7 +53,7 @@ pub record Promised {B S : Type 0} (k : Kinds B S) (from : State k.book) (past :
     (y : Bench B S) : Type 0 where
   pub step : Step x.bus (rows_in x) k.book (state_of k x) c a (state_of k y)
   pub course : Course k from (record { call = c; answer = a } ∷ past) y
-  pub places : (f : ℕ) → k.places y.buffer f ≡ k.places x.buffer f
+  pub places : (f : ℕ) → (k.buffer y.buffer).places f ≡ (k.buffer x.buffer).places f
   pub guarantee : Guarantee x.bus (rows_in x) k.book from (state_of k y) (record { call = c; answer = a } ∷ past)
   pub in_order : InOrder x.bus (rows_in x) k.book from (state_of k y)
 

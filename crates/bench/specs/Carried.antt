@@ -19,7 +19,7 @@ followed past (c ∷ cs) (a ∷ given) = followed (record { call = c; answer = a
 pub record AllPromised {B S : Type 0} (k : Kinds B S) (from : State k.book) (past : List Answered) (x : Bench B S) (cs : List Call)
     (given : List Answer) (y : Bench B S) : Type 0 where
   pub course : Course k from (followed past cs given) y
-  pub places : (f : ℕ) → k.places y.buffer f ≡ k.places x.buffer f
+  pub places : (f : ℕ) → (k.buffer y.buffer).places f ≡ (k.buffer x.buffer).places f
   pub guarantee : Guarantee y.bus (rows_in y) k.book from (state_of k y) (followed past cs given)
   pub in_order : InOrder y.bus (rows_in y) k.book from (state_of k y)
 

@@ -1,6 +1,5 @@
 -- When a plan and a buffer become a bench, and what bench it is.
-use Rattle.std.specs.Prelude.{◌≡◌, ℕ, ◌<◌, Bool, true, false, ◌&&◌, List, [], length, None, Option, nat_lt}
-use Rattle.std.specs.Option as options
+use Rattle.std.specs.Prelude.{◌≡◌, ℕ, ◌<◌, Bool, true, false, cond, ◌&&◌, List, [], length, None, ◌==◌, nat_lt}
 use Rattle.std.specs.List.{AllByRecursion}
 use Rattle.fields.specs.Limits.{Admitted}
 use Rattle.fields.specs.declared.limits.Field.{Field}
@@ -12,7 +11,7 @@ use Rattle.fields.specs.declared.refusal.Reason.{Reason}
 use Rattle.fields.specs.declared.refusal.Reason.TheVariants.{TooFewPlaces, NotFresh}
 use Rattle.fields.specs.declared.refusal.Refusal.{Refusal}
 use Rattle.books.specs.Book.{Book}
-use Rattle.buffers.specs.Buffer.{Meaning, meant}
+use Rattle.buffers.specs.Buffer.{Meaning}
 use Rattle.delay.specs.declared.entry.Row.{Row}
 use Rattle.plan.specs.Drafts.{entries_of}
 use Rattle.plan.specs.Plans.{rows_of, Planned}
@@ -27,7 +26,7 @@ use Rattle.bench.specs.Benches.{Kinds, rows_in, state_of, Course}
 use Rattle.bench.specs.declared.bench.Bench.{Bench}
 use Rattle.bench.specs.declared.bench.BenchRefused.{BenchRefused}
 
--- No value of a field's range has a property, none below some value has it, and the lowest one that has it.
+-- No value of a field's range has a property, none below some value has it, and a value is the lowest one that has it.
 abbrev pub NoneIn : Field → (ℕ → Bool) → Type 0
 NoneIn f has = (n : ℕ) → Admitted f n → has n ≡ false
 
@@ -39,9 +38,9 @@ pub record LowestIn (f : Field) (has : ℕ → Bool) (n : ℕ) : Type 0 where
   pub here : has n ≡ true
   pub below : NoneBelow f has n
 
--- The lowest one, where there is one.
-abbrev pub Lowest : Field → (ℕ → Bool) → Option ℕ → Type 0
-Lowest f has o = options.MatchOption o (NoneIn f has) (LowestIn f has)
+-- The places that a row's message needs of a frame, where the book lists it.
+abbrev pub needed_by : (b : Book) → b.State → ℕ → Row → ℕ
+needed_by b s f r = cond (r.entry.frame == f) (cond (b.lists s r.entry.number) (b.count s r.entry.number r.delay) 0) 0
 
 -- The frame has fewer places than its messages need.
 abbrev pub too_few : (b : Book) → b.State → List Row → Meaning → ℕ → Bool
@@ -92,7 +91,7 @@ pub record Proper {B S : Type 0} (k : Kinds B S) (p : Plan B) (buffer : S) : Typ
 -- What is true of a bench that was set up with a proper plan and buffer: all was ready, it begins its course, and the
 -- promise of the plan holds of every run from here.
 pub record Begun {B S : Type 0} (k : Kinds B S) (x : Bench B S) : Type 0 where
-  pub ready : Ready k.book (k.meaning x.book) (rows_in x) (meant k.places k.waiting x.buffer)
+  pub ready : Ready k.book (k.meaning x.book) (rows_in x) (k.buffer x.buffer)
   pub course : Course k (state_of k x) [] x
   pub guarantee : (xs : List Answered) (s : State k.book) → Run x.bus (rows_in x) k.book (state_of k x) xs s
       → Guarantee x.bus (rows_in x) k.book (state_of k x) s xs × InOrder x.bus (rows_in x) k.book (state_of k x) s
@@ -112,4 +111,4 @@ pub record BenchOf {B S : Type 0} (k : Kinds B S) (p : Plan B) (buffer : S) (x :
 pub record NoBench {B S : Type 0} (k : Kinds B S) (p : Plan B) (buffer : S) (e : BenchRefused B S) : Type 0 where
   pub same_plan : e.plan ≡ p
   pub same_buffer : e.buffer ≡ buffer
-  pub why : Proper k p buffer → FaultOf k.book (k.meaning p.book) (rows_of p) (meant k.places k.waiting buffer) e.fault
+  pub why : Proper k p buffer → FaultOf k.book (k.meaning p.book) (rows_of p) (k.buffer buffer) e.fault

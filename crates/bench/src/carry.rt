@@ -11,7 +11,7 @@ use std::alloc::{AllocError, Global};
 
 // Carries out one call.
 fn answer<B: ReleaseBook, S: SendBuffer>(bench: &mut Bench<B, S>, call: Call) -> Answer
-    ensures { Kept (kinds B.ReleaseBook.book B.ReleaseBook.meaning S.SendBuffer.places S.SendBuffer.waiting S.SendBuffer.sound)
+    ensures { Kept (kinds B.book B.meaning S.meaning S.sound)
         bench.old call result bench.new }
 {
     match call {
@@ -25,7 +25,7 @@ impl<B: ReleaseBook, S: SendBuffer> Bench<B, S> {
     // Carries out the calls in their order and answers them all. The memory for the answers is taken first, so that for
     // want of it nothing is changed.
     pub fn carry_out(&mut self, heap: Global, calls: &[Call]) -> Result<Vec<Answer>, AllocError>
-        ensures kept { IfOk result (λ v. AllKept (kinds B.ReleaseBook.book B.ReleaseBook.meaning S.SendBuffer.places S.SendBuffer.waiting S.SendBuffer.sound)
+        ensures kept { IfOk result (λ v. AllKept (kinds B.book B.meaning S.meaning S.sound)
             self.old calls.now v.items self.new) }
         ensures unchanged { OnErr result (self.new ≡ self.old) }
     {

@@ -1,12 +1,11 @@
 // Setting up: a plan and a send buffer become a bench.
-ghost use Rattle.std.specs.Prelude.{◌≡◌, true, cond, map, IfOk, MatchResult, ◌==◌};
+ghost use Rattle.std.specs.Prelude.{◌≡◌, ℕ, ◌^◌, ◌<◌, true, false, map, IfOk, MatchResult};
 ghost use Rattle.std.specs.List.{range_with_len};
 ghost use Rattle.std.specs.Option as options;
-ghost use Rattle.fields.specs.declared.limits.Field.TheVariants as field;
-ghost use Rattle.buffers.specs.Buffer.{meant};
+ghost use Rattle.fields.specs.Limits.{Admitted, highest};
 ghost use Rattle.slots.specs.Rows.{needs, last_start_of, size_of};
 ghost use Rattle.bench.specs.Benches.{kinds};
-ghost use Rattle.bench.specs.SetUps.{Lowest, too_few, waits, early, Ready, RefusedAs, AllListed, BenchOf, NoBench};
+ghost use Rattle.bench.specs.SetUps.{needed_by, too_few, early, Ready, RefusedAs, FaultOf, AllListed, BenchOf, NoBench};
 
 use crate::bench::{Bench, BenchRefused};
 use books::book::ReleaseBook;
@@ -19,113 +18,70 @@ use plan::plan::Plan;
 use slots::rules::{first_position, last_start, size_of};
 use std::alloc::{AllocError, Global};
 
-fn refused(reason: Reason, concerns: u16) -> Refusal
-    ensures { result ≡ record { reason = reason; place = Place.SettingUp; concerns = concerns } }
-{
-    Refusal {
-        reason,
-        place: Place::SettingUp,
-        concerns: u32::from(concerns),
-    }
-}
-
 // The places that one row needs of a frame.
 fn need_of<B: ReleaseBook>(row: &Row, book: &B, frame: u16) -> u32
-    ensures { B.ReleaseBook.book.lists (B.ReleaseBook.meaning book.now) row.now.entry.number ≡ true →
-        result ≡ cond (row.now.entry.frame == frame)
-        (B.ReleaseBook.book.count (B.ReleaseBook.meaning book.now) row.now.entry.number row.now.delay) 0 }
+    ensures { result ≡ needed_by B.book (B.meaning book.now) frame row.now }
 {
     if row.entry.frame != frame {
         return 0;
     }
-    match places_needed(row, book) {
-        Ok(places) => places,
-        Err(_) => 0,
-    }
+    places_needed(row, book).unwrap_or(0)
 }
 
 // The places that all rows need of a frame.
 fn needs_of<B: ReleaseBook>(rows: &[Row], book: &B, frame: u16) -> u128
-    ensures { AllListed B.ReleaseBook.book (B.ReleaseBook.meaning book.now) rows.now →
-        result ≡ needs (B.ReleaseBook.book.count (B.ReleaseBook.meaning book.now)) rows.now frame }
+    ensures { AllListed B.book (B.meaning book.now) rows.now →
+        result ≡ needs (B.book.count (B.meaning book.now)) rows.now frame }
 {
-    let mut total: u128 = 0;
-    for row in rows {
-        total += u128::from(need_of(row, book, frame));
-    }
-    total
+    rows.iter()
+        .map(|row| u128::from(need_of(row, book, frame)))
+        .sum()
 }
 
-// The lowest frame that has fewer places than its messages need.
-fn lowest_short<B: ReleaseBook, S: SendBuffer>(rows: &[Row], book: &B, buffer: &S) -> Option<u16>
-    ensures { AllListed B.ReleaseBook.book (B.ReleaseBook.meaning book.now) rows.now → S.SendBuffer.sound buffer.now →
-        Lowest field.Frame (too_few B.ReleaseBook.book (B.ReleaseBook.meaning book.now) rows.now
-        (meant S.SendBuffer.places S.SendBuffer.waiting buffer.now)) result }
+// The lowest value of a field that meets a test, where one does.
+fn lowest<F: Fn(u16) -> bool>(field: Field, meets: F) -> Option<u16>
+    requires callable { F.IsAlwaysCallable meets }
+    requires small { highest field < 2 ^ 16 }
+    ensures { options.MatchOption result ((n : ℕ) → Admitted field n → F.post meets n false)
+        (λ n. Admitted field n × F.post meets n true × ((m : ℕ) → Admitted field m → m < n → F.post meets m false)) }
 {
-    let limits = limits_of(Field::Frame);
-    for number in limits.low..=limits.high {
-        let frame = number as u16;
-        if u128::from(buffer.places_of(frame)) < needs_of(rows, book, frame) {
-            return Some(frame);
-        }
-    }
-    None
+    let limits = limits_of(field);
+    (limits.low..=limits.high)
+        .map(|number| number as u16)
+        .find(|number| meets(*number))
 }
 
-// The lowest frame for which something waits.
-fn lowest_waiting<S: SendBuffer>(buffer: &S) -> Option<u16>
-    ensures { S.SendBuffer.sound buffer.now → Lowest field.Frame (waits (meant S.SendBuffer.places S.SendBuffer.waiting buffer.now)) result }
+// Whether a frame has fewer places than its messages need.
+fn is_short<B: ReleaseBook, S: SendBuffer>(rows: &[Row], book: &B, buffer: &S, frame: u16) -> bool
+    ensures { AllListed B.book (B.meaning book.now) rows.now → S.sound buffer.now →
+        result ≡ too_few B.book (B.meaning book.now) rows.now (S.meaning buffer.now) frame }
 {
-    let limits = limits_of(Field::Frame);
-    for number in limits.low..=limits.high {
-        let frame = number as u16;
-        if buffer.waiting_for(frame) > 0 {
-            return Some(frame);
-        }
-    }
-    None
+    u128::from(buffer.places_of(frame)) < needs_of(rows, book, frame)
 }
 
 // Whether a message may not be released at once.
 fn is_early<B: ReleaseBook>(book: &B, message: u16) -> bool
-    ensures { result ≡ early B.ReleaseBook.book (B.ReleaseBook.meaning book.now) message }
+    ensures { result ≡ early B.book (B.meaning book.now) message }
 {
-    match book.earliest(message) {
-        Ok(earliest) => earliest > 0,
-        Err(_) => false,
-    }
+    book.earliest(message).is_ok_and(|earliest| earliest > 0)
 }
 
-// The lowest message that may not be released at once.
-fn lowest_early<B: ReleaseBook>(book: &B) -> Option<u16>
-    ensures { Lowest field.Message (early B.ReleaseBook.book (B.ReleaseBook.meaning book.now)) result }
+// Whether rows, book and buffer make a bench, or why they do not.
+fn ready<B: ReleaseBook, S: SendBuffer>(rows: &[Row], book: &B, buffer: &S) -> Result<(), Refusal>
+    ensures { AllListed B.book (B.meaning book.now) rows.now → S.sound buffer.now →
+        MatchResult result (λ _. Ready B.book (B.meaning book.now) rows.now (S.meaning buffer.now))
+        (RefusedAs B.book (B.meaning book.now) rows.now (S.meaning buffer.now)) }
 {
-    let limits = limits_of(Field::Message);
-    for number in limits.low..=limits.high {
-        let message = number as u16;
-        if is_early(book, message) {
-            return Some(message);
-        }
+    if let Some(frame) = lowest(Field::Frame, |frame| is_short(rows, book, buffer, frame)) {
+        return Err(Place::SettingUp.refuses(Reason::TooFewPlaces, u32::from(frame)));
     }
-    None
-}
-
-// Why rows, book and buffer make no bench, if so.
-fn unready<B: ReleaseBook, S: SendBuffer>(rows: &[Row], book: &B, buffer: &S) -> Option<Refusal>
-    ensures { AllListed B.ReleaseBook.book (B.ReleaseBook.meaning book.now) rows.now → S.SendBuffer.sound buffer.now →
-        options.MatchOption result (Ready B.ReleaseBook.book (B.ReleaseBook.meaning book.now) rows.now (meant S.SendBuffer.places S.SendBuffer.waiting buffer.now))
-        (λ e. RefusedAs B.ReleaseBook.book (B.ReleaseBook.meaning book.now) rows.now (meant S.SendBuffer.places S.SendBuffer.waiting buffer.now) e) }
-{
-    if let Some(frame) = lowest_short(rows, book, buffer) {
-        return Some(refused(Reason::TooFewPlaces, frame));
+    if let Some(frame) = lowest(Field::Frame, |frame| buffer.waiting_for(frame) > 0) {
+        return Err(Place::SettingUp.refuses(Reason::NotFresh, u32::from(frame)));
     }
-    if let Some(frame) = lowest_waiting(buffer) {
-        return Some(refused(Reason::NotFresh, frame));
+    if let Some(message) = lowest(Field::Message, |message| is_early(book, message)) {
+        return Err(Place::SettingUp.refuses(Reason::NotFresh, u32::from(message)));
     }
-    if let Some(message) = lowest_early(book) {
-        return Some(refused(Reason::NotFresh, message));
-    }
-    None
+    Ok(())
 }
 
 // What a slot run looks up.
@@ -137,33 +93,38 @@ struct Tables {
     sizes: Vec<u16>,
 }
 
-fn starts_of(heap: Global, rows: &[Row]) -> Result<Vec<u16>, AllocError>
-    ensures { IfOk result (λ v. v.items ≡ map (last_start_of rows.now) (range_with_len 0 2048)) }
+// A table with an entry for each number below a length.
+fn table<F: Fn(u16) -> u16>(heap: Global, len: u16, entry: F) -> Result<Vec<u16>, AllocError>
+    requires { F.IsAlwaysCallable entry }
+    ensures { (h : ℕ → ℕ) → ((n m : ℕ) → F.post entry n m → m ≡ h n) → IfOk result (λ v. v.items ≡ map h (range_with_len 0 len)) }
 {
-    let mut starts = Vec::with_capacity(heap, 2048)?;
-    for frame in 0..2048 {
-        starts.push_reserved(last_start(rows, frame));
-    }
-    Ok(starts)
-}
-
-fn sizes_of(heap: Global, rows: &[Row]) -> Result<Vec<u16>, AllocError>
-    ensures { IfOk result (λ v. v.items ≡ map (size_of rows.now) (range_with_len 0 129)) }
-{
-    let mut sizes = Vec::with_capacity(heap, 129)?;
-    for message in 0..129 {
-        sizes.push_reserved(size_of(rows, message));
-    }
-    Ok(sizes)
+    (0..len).map(|number| entry(number)).collect(heap)
 }
 
 fn tables_of(heap: Global, rows: &[Row]) -> Result<Tables, AllocError>
     ensures starts { IfOk result (λ t. t.starts.items ≡ map (last_start_of rows.now) (range_with_len 0 2048)) }
     ensures sizes { IfOk result (λ t. t.sizes.items ≡ map (size_of rows.now) (range_with_len 0 129)) }
 {
-    let starts = starts_of(heap, rows)?;
-    let sizes = sizes_of(heap, rows)?;
+    let starts = table(heap, 2048, |frame| last_start(rows, frame))?;
+    let sizes = table(heap, 129, |message| size_of(rows, message))?;
     Ok(Tables { starts, sizes })
+}
+
+// What a slot run looks up, where rows, book and buffer make a bench.
+fn prepared<B: ReleaseBook, S: SendBuffer>(
+    heap: Global,
+    rows: &[Row],
+    book: &B,
+    buffer: &S,
+) -> Result<Tables, MakingFault>
+    ensures why { AllListed B.book (B.meaning book.now) rows.now → S.sound buffer.now →
+        MatchResult result (λ _. Ready B.book (B.meaning book.now) rows.now (S.meaning buffer.now))
+        (FaultOf B.book (B.meaning book.now) rows.now (S.meaning buffer.now)) }
+    ensures starts { IfOk result (λ t. t.starts.items ≡ map (last_start_of rows.now) (range_with_len 0 2048)) }
+    ensures sizes { IfOk result (λ t. t.sizes.items ≡ map (size_of rows.now) (range_with_len 0 129)) }
+{
+    ready(rows, book, buffer)?;
+    Ok(tables_of(heap, rows)?)
 }
 
 // The bench of a plan and a buffer. Refused, they come back as they were.
@@ -172,24 +133,18 @@ pub fn set_up<B: ReleaseBook, S: SendBuffer>(
     plan: Plan<B>,
     buffer: S,
 ) -> Result<Bench<B, S>, BenchRefused<B, S>>
-    ensures { MatchResult result (λ x. BenchOf (kinds B.ReleaseBook.book B.ReleaseBook.meaning S.SendBuffer.places S.SendBuffer.waiting S.SendBuffer.sound) plan buffer x)
-        (λ e. NoBench (kinds B.ReleaseBook.book B.ReleaseBook.meaning S.SendBuffer.places S.SendBuffer.waiting S.SendBuffer.sound) plan buffer e) }
+    ensures { MatchResult result (λ x. BenchOf (kinds B.book B.meaning S.meaning S.sound) plan buffer x)
+        (λ e. NoBench (kinds B.book B.meaning S.meaning S.sound) plan buffer e) }
 {
-    if let Some(refusal) = unready(plan.sheet(), plan.book(), &buffer) {
-        let fault = MakingFault::Refused(refusal);
-        return Err(BenchRefused {
-            plan,
-            buffer,
-            fault,
-        });
-    }
-    let Ok(tables) = tables_of(heap, plan.sheet()) else {
-        let fault = MakingFault::Memory;
-        return Err(BenchRefused {
-            plan,
-            buffer,
-            fault,
-        });
+    let tables = match prepared(heap, plan.sheet(), plan.book(), &buffer) {
+        Ok(tables) => tables,
+        Err(fault) => {
+            return Err(BenchRefused {
+                plan,
+                buffer,
+                fault,
+            });
+        }
     };
     let position = first_position(plan.book());
     let parts = plan.into_parts();

@@ -9,7 +9,7 @@ use buffers::instance::Instance;
 use buffers::joint::JointBuffer;
 use buffers::pool::Pool;
 use buffers::ranked_buffer::RankedBuffer;
-use fields::refusal::{MakingFault, Place, Reason, Refusal};
+use fields::refusal::{MakingFault, Place, Reason};
 use plan::draft::{Draft, Message};
 use plan::plan::Plan;
 use slots::calls::{Answer, Call, Sent, SlotReport};
@@ -85,17 +85,15 @@ fn window(heap: Global) -> Result<WindowBook, MakingFault> {
     WindowBook::new(heap, &messages)
 }
 
+// What was made, or that it is missing.
+fn made<T, E: Drop>(made: Result<T, E>, missing: &'static str) -> Result<T, Fail> {
+    made.map_err(|_| Fail::new(missing))
+}
+
 fn joint(heap: Global) -> Result<JointBook<PeriodicBook, WindowBook>, Fail> {
-    let Ok(left) = periodic(heap) else {
-        return Err(Fail::new("no periodic book"));
-    };
-    let Ok(right) = window(heap) else {
-        return Err(Fail::new("no window book"));
-    };
-    match JointBook::new(left, right) {
-        Ok(book) => Ok(book),
-        Err(_) => Err(Fail::new("no joint book")),
-    }
+    let left = made(periodic(heap), "no periodic book")?;
+    let right = made(window(heap), "no window book")?;
+    made(JointBook::new(left, right), "no joint book")
 }
 
 // The plan of those messages that the book lists.
@@ -103,9 +101,7 @@ fn plan_over<B: ReleaseBook + Drop>(
     rt: &(impl Abort + AllocGlobal),
     book: B,
 ) -> Result<Plan<B>, Fail> {
-    let Ok(mut draft) = Draft::new(rt.alloc(), 100, 40, 2, 25) else {
-        return Err(Fail::new("no draft"));
-    };
+    let mut draft = made(Draft::new(rt.alloc(), 100, 40, 2, 25), "no draft")?;
     assert!(rt;
         draft.node(1, 20).is_ok() && draft.node(2, 18).is_ok() && draft.node(3, 20).is_ok()
     );
@@ -114,10 +110,7 @@ fn plan_over<B: ReleaseBook + Drop>(
             assert!(rt; draft.message(*message).is_ok());
         }
     }
-    match draft.into_plan(rt.alloc(), book) {
-        Ok(plan) => Ok(plan),
-        Err(_) => Err(Fail::new("no plan")),
-    }
+    made(draft.into_plan(rt.alloc(), book), "no plan")
 }
 
 fn release(message: u16, time: u64) -> Call {
@@ -129,11 +122,7 @@ fn accepted() -> Answer {
 }
 
 fn refused(reason: Reason, message: u32) -> Answer {
-    Answer::Released(Err(Refusal {
-        reason,
-        place: Place::Bench,
-        concerns: message,
-    }))
+    Answer::Released(Err(Place::Bench.refuses(reason, message)))
 }
 
 // Slots of one cycle, each two macroticks after the one before; the first sends a message that was released at 0, or
@@ -169,14 +158,11 @@ fn empty(cycle: u32, slot: u16, slots: u16, start: u64) -> Stretch {
 
 impl Stretch {
     fn answer(self, i: u16) -> Answer {
-        let sent = match self.sent {
-            Some((message, finish)) => Some(Sent {
-                message,
-                release: 0,
-                finish,
-            }),
-            None => None,
-        };
+        let sent = self.sent.map(|(message, finish)| Sent {
+            message,
+            release: 0,
+            finish,
+        });
         Answer::Ran(Ok(SlotReport {
             cycle: self.cycle,
             slot: self.slot.saturating_add(i),
@@ -195,9 +181,7 @@ fn plays<B: ReleaseBook + Drop, S: SendBuffer + Drop>(
     stretches: &[Stretch],
     stands: (u32, u16),
 ) -> Result<(), Fail> {
-    let Ok(mut bench) = set_up(rt.alloc(), plan, buffer) else {
-        return Err(Fail::new("no bench"));
-    };
+    let mut bench = made(set_up(rt.alloc(), plan, buffer), "no bench")?;
     let mut calls = Vec::new(rt.alloc());
     let mut due = Vec::new(rt.alloc());
     for (call, answer) in releases {
@@ -244,17 +228,11 @@ fn whole<S: SendBuffer + Drop>(rt: &(impl Abort + AllocGlobal), buffer: S) -> Re
 }
 
 fn ranked(heap: Global, places: &[u16]) -> Result<RankedBuffer, Fail> {
-    match RankedBuffer::new(heap, places) {
-        Ok(buffer) => Ok(buffer),
-        Err(_) => Err(Fail::new("no ranked buffer")),
-    }
+    made(RankedBuffer::new(heap, places), "no ranked buffer")
 }
 
 fn pool(heap: Global, places: &[u16]) -> Result<Pool, Fail> {
-    match Pool::new(heap, places) {
-        Ok(buffer) => Ok(buffer),
-        Err(_) => Err(Fail::new("no pool")),
-    }
+    made(Pool::new(heap, places), "no pool")
 }
 
 #[test]
@@ -276,9 +254,7 @@ fn over_a_joint_buffer(rt: HostRuntime) -> Result<(), Fail> {
 
 #[test]
 fn over_the_periodic_book(rt: HostRuntime) -> Result<(), Fail> {
-    let Ok(book) = periodic(rt.alloc()) else {
-        return Err(Fail::new("no periodic book"));
-    };
+    let book = made(periodic(rt.alloc()), "no periodic book")?;
     let releases = [
         (release(1, 0), accepted()),
         (release(2, 0), accepted()),
@@ -307,9 +283,7 @@ fn over_the_periodic_book(rt: HostRuntime) -> Result<(), Fail> {
 
 #[test]
 fn over_the_window_book(rt: HostRuntime) -> Result<(), Fail> {
-    let Ok(book) = window(rt.alloc()) else {
-        return Err(Fail::new("no window book"));
-    };
+    let book = made(window(rt.alloc()), "no window book")?;
     let releases = [
         (release(3, 0), accepted()),
         (release(3, 41), refused(Reason::TimeNotAllowed, 3)),
@@ -343,18 +317,12 @@ fn is_refused<B: ReleaseBook + Drop>(
     concerns: u32,
 ) -> Result<(), Fail> {
     let plan = plan_over(rt, book)?;
-    let fault = MakingFault::Refused(Refusal {
-        reason,
-        place: Place::SettingUp,
-        concerns,
-    });
-    match set_up(rt.alloc(), plan, buffer) {
-        Ok(_) => Err(Fail::new("set up")),
-        Err(e) => {
-            assert!(rt; e.fault == fault);
-            Ok(())
-        },
-    }
+    let fault = MakingFault::Refused(Place::SettingUp.refuses(reason, concerns));
+    let Err(e) = set_up(rt.alloc(), plan, buffer) else {
+        return Err(Fail::new("set up"));
+    };
+    assert_eq!(rt; e.fault, fault);
+    Ok(())
 }
 
 #[test]

@@ -5,7 +5,7 @@ use buffers::joint::JointBuffer;
 use buffers::pool::Pool;
 use buffers::ranked_buffer::RankedBuffer;
 use buffers::runs::{BufferAnswer, BufferCall, carry_out};
-use fields::refusal::{MakingFault, Place, Reason, Refusal};
+use fields::refusal::{MakingFault, Place, Reason};
 use std::process::Abort;
 use std::test::Fail;
 
@@ -18,11 +18,7 @@ fn of(message: u16, priority: u16, release: u64) -> Instance {
 }
 
 fn refused(reason: Reason, frame: u32) -> BufferAnswer {
-    BufferAnswer::Put(Err(Refusal {
-        reason,
-        place: Place::Buffer,
-        concerns: frame,
-    }))
+    BufferAnswer::Put(Err(Place::Buffer.refuses(reason, frame)))
 }
 
 fn full(frame: u32) -> BufferAnswer {
@@ -94,62 +90,43 @@ fn cases() -> [Case; 28] {
 
 fn serves<B: SendBuffer>(rt: &(impl Abort + AllocGlobal), buffer: &mut B) -> Result<(), Fail> {
     let cases = cases();
-    let mut calls = Vec::new(rt.alloc());
-    for case in &cases {
-        calls.push(case.call)?;
-    }
+    let calls: Vec<_> = cases.iter().map(|case| case.call).collect(rt.alloc())?;
     let answers = carry_out(rt.alloc(), buffer, calls.as_slice())?;
-    for (place, case) in cases.iter().enumerate() {
-        assert!(rt; place < answers.len());
-        assert!(rt; answers[place] == case.answer, "{}", case.name);
+    assert_eq!(rt; answers.len(), cases.len());
+    for (answer, case) in answers.iter().zip(&cases) {
+        assert!(rt; *answer == case.answer, "{}", case.name);
     }
-    assert!(rt; answers.len() == cases.len());
     Ok(())
+}
+
+// The buffer that was made.
+fn made<B: Drop>(buffer: Result<B, MakingFault>) -> Result<B, Fail> {
+    buffer.map_err(|_| Fail::new("not made"))
 }
 
 #[test]
 fn ranked_buffer(rt: HostRuntime) -> Result<(), Fail> {
-    let Ok(mut buffer) = RankedBuffer::new(rt.alloc(), &[2, 1, 0, 3]) else {
-        return Err(Fail::new("not made"));
-    };
-    serves(&rt, &mut buffer)
+    serves(
+        &rt,
+        &mut made(RankedBuffer::new(rt.alloc(), &[2, 1, 0, 3]))?,
+    )
 }
 
 #[test]
 fn pool(rt: HostRuntime) -> Result<(), Fail> {
-    let Ok(mut buffer) = Pool::new(rt.alloc(), &[2, 1, 0, 3]) else {
-        return Err(Fail::new("not made"));
-    };
-    serves(&rt, &mut buffer)
+    serves(&rt, &mut made(Pool::new(rt.alloc(), &[2, 1, 0, 3]))?)
 }
 
 // The left serves frames 1 and 4, though the right has places for frame 1 as well.
 #[test]
 fn joint_buffer(rt: HostRuntime) -> Result<(), Fail> {
-    let Ok(left) = RankedBuffer::new(rt.alloc(), &[2, 0, 0, 3]) else {
-        return Err(Fail::new("not made"));
-    };
-    let Ok(right) = Pool::new(rt.alloc(), &[9, 1]) else {
-        return Err(Fail::new("not made"));
-    };
-    let mut buffer = JointBuffer::new(left, right);
-    serves(&rt, &mut buffer)
-}
-
-// Why a buffer was not made.
-fn fault_of<B: Drop>(made: Result<B, MakingFault>) -> Option<MakingFault> {
-    match made {
-        Ok(_) => None,
-        Err(fault) => Some(fault),
-    }
+    let left = made(RankedBuffer::new(rt.alloc(), &[2, 0, 0, 3]))?;
+    let right = made(Pool::new(rt.alloc(), &[9, 1]))?;
+    serves(&rt, &mut JointBuffer::new(left, right))
 }
 
 fn out_at(frame: u32) -> Option<MakingFault> {
-    Some(MakingFault::Refused(Refusal {
-        reason: Reason::OutOfRange,
-        place: Place::Buffer,
-        concerns: frame,
-    }))
+    Some(MakingFault::Refused(Place::Buffer.refuses(Reason::OutOfRange, frame)))
 }
 
 #[test]
@@ -169,7 +146,7 @@ fn places_of_a_new_buffer(rt: HostRuntime) {
         (&late, out_at(2_047)),
     ];
     for (places, fault) in cases {
-        assert_eq!(rt; fault_of(RankedBuffer::new(heap, places)), fault);
-        assert_eq!(rt; fault_of(Pool::new(heap, places)), fault);
+        assert_eq!(rt; RankedBuffer::new(heap, places).err(), fault);
+        assert_eq!(rt; Pool::new(heap, places).err(), fault);
     }
 }

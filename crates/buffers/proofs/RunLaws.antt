@@ -16,7 +16,7 @@ use Rattle.buffers.specs.declared.instance.Instance.{Instance}
 use Rattle.buffers.specs.declared.runs.BufferCall.{BufferCall}
 use Rattle.buffers.specs.declared.runs.BufferAnswer.{BufferAnswer}
 use Rattle.buffers.specs.declared.runs.BufferAnswer.TheVariants as answer
-use Rattle.buffers.specs.Classes.{none_of, other_out, own_in}
+use Rattle.buffers.proofs.Classes.{none_of, other_out, own_in}
 
 -- one call more
 carried_push : {m m' m'' : Meaning} {cs : List BufferCall} {given : List BufferAnswer} {c : BufferCall} {a : BufferAnswer}

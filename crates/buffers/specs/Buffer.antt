@@ -15,10 +15,6 @@ pub record Meaning : Type 0 where
   pub places : ℕ → ℕ
   pub waiting : ℕ → List Instance
 
--- The meaning of a value, by what the value says of places and of waiting instances.
-abbrev pub meant : {B : Type 0} → (B → ℕ → ℕ) → (B → ℕ → List Instance) → B → Meaning
-meant places waiting b = record { places = places b; waiting = waiting b }
-
 -- The first is sent no later than the second, if both wait for one frame: its priority number is not greater.
 abbrev pub upto : Instance → Instance → Bool
 upto x y = nat_le x.priority y.priority

@@ -4,9 +4,5 @@ pub mod Places
 pub mod Pooled
 pub mod Queues
 pub mod Runs
-pub mod Classes
-pub mod PoolCalls
-pub mod Calls
-pub mod Handing
-pub mod Placing
-pub mod QueueTable
+pub mod PoolLaws
+pub mod QueueLaws

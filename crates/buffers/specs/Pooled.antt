@@ -7,7 +7,15 @@ use Rattle.fields.specs.Limits.{highest}
 use Rattle.fields.specs.declared.limits.Field.TheVariants.{Priority}
 use Rattle.buffers.specs.Buffer.{Meaning, of_priority, sendable}
 use Rattle.buffers.specs.declared.instance.Instance.{Instance}
+use Rattle.buffers.specs.declared.pool.frame_places.FramePlaces.{FramePlaces}
 use Rattle.buffers.specs.declared.pool.held.Held.{Held}
+
+-- The places of each frame and those that are free, by frame number.
+abbrev pub all_places : List FramePlaces → List ℕ
+all_places = map (λ p. p.all)
+
+abbrev pub free_places : List FramePlaces → List ℕ
+free_places = map (λ p. p.free)
 
 -- What came for a frame, in the order of arrival.
 abbrev pub arrivals : ℕ → List Held → List Instance

@@ -1,6 +1,5 @@
 // The joint buffer: two buffers side by side, of any kinds.
 ghost use Rattle.std.specs.Prelude.{◌≡◌};
-ghost use Rattle.buffers.specs.Buffer.{meant};
 ghost use Rattle.buffers.specs.Joint.{joined, sides};
 ghost use Rattle.std.proofs.Common.{rules};
 
@@ -18,23 +17,17 @@ pub struct JointBuffer<L, R> {
 impl<L: SendBuffer, R: SendBuffer> JointBuffer<L, R> {
     // The buffer of both, with what waits in each.
     pub fn new(left: L, right: R) -> JointBuffer<L, R>
-        ensures parts { sides (meant L.SendBuffer.places L.SendBuffer.waiting) (meant R.SendBuffer.places R.SendBuffer.waiting) result
-            ≡ joined (meant L.SendBuffer.places L.SendBuffer.waiting left) (meant R.SendBuffer.places R.SendBuffer.waiting right) }
-        ensures sound { L.SendBuffer.sound left → R.SendBuffer.sound right →
-            L.SendBuffer.sound result.left × R.SendBuffer.sound result.right }
+        ensures parts { sides L.meaning R.meaning result ≡ joined (L.meaning left) (R.meaning right) }
+        ensures sound { L.sound left → R.sound right → L.sound result.left × R.sound result.right }
     {
         JointBuffer { left, right }
     }
 }
 
 impl<L: SendBuffer, R: SendBuffer> SendBuffer for JointBuffer<L, R> {
-    ghost places = { λ j. (sides (meant L.SendBuffer.places L.SendBuffer.waiting)
-        (meant R.SendBuffer.places R.SendBuffer.waiting) j).places };
+    ghost meaning = { sides L.meaning R.meaning };
 
-    ghost waiting = { λ j. (sides (meant L.SendBuffer.places L.SendBuffer.waiting)
-        (meant R.SendBuffer.places R.SendBuffer.waiting) j).waiting };
-
-    ghost sound = { λ j. L.SendBuffer.sound j.left × R.SendBuffer.sound j.right };
+    ghost sound = { λ j. L.sound j.left × R.sound j.right };
 
     ghost room = { Prim.search rules };
 

@@ -1,17 +1,17 @@
 // The ranked buffer: orders at put. Each frame has a queue of its own, in sending order.
-ghost use Rattle.std.specs.Prelude.{◌≡◌, ℕ, ◌+◌, ◌<◌, [], IfOk, vec_len};
+ghost use Rattle.std.specs.Prelude.{◌≡◌, ℕ, ◌+◌, ◌<◌, [], IfOk, vec_len, slice_index_or};
 ghost use Rattle.fields.specs.Limits.{highest};
 ghost use Rattle.fields.specs.declared.limits.Field.TheVariants.{Frame};
 ghost use Rattle.buffers.specs.Places.{Making, places_given};
 ghost use Rattle.buffers.specs.Queues.{places_in, waiting_in, meaning_of, SoundQueues};
-ghost use Rattle.buffers.specs.QueueTable.{queues_room, none_outside};
+ghost use Rattle.buffers.specs.declared.ranked_buffer.queue.FrameQueue.{FrameQueue};
+ghost use Rattle.buffers.specs.QueueLaws.{queues_room, none_outside};
 ghost use Rattle.std.proofs.Common.{arith};
 
-use crate::buffer::{SendBuffer, in_range, refused};
+use crate::buffer::{SendBuffer, in_range};
 use crate::instance::Instance;
-use crate::places::{given, total};
-use fields::limits::{Field, admits, limits_of};
-use fields::refusal::{MakingFault, Reason, Refusal};
+use crate::places::{FRAMES, given, total};
+use fields::refusal::{MakingFault, Place, Reason, Refusal};
 use queue::FrameQueue;
 use std::alloc::{AllocError, Global};
 
@@ -27,15 +27,12 @@ pub struct RankedBuffer {
 // An empty queue for each frame, with its places.
 fn queues(heap: Global, places: &[u16]) -> Result<Vec<FrameQueue>, AllocError>
     ensures sized { IfOk result (λ v. vec_len v ≡ highest Frame + 1) }
-    ensures places { IfOk result (λ v. ((f : ℕ) → f < highest Frame + 1 → places_in v.items f ≡ places_given places.now f)) }
-    ensures nothing { IfOk result (λ v. ((f : ℕ) → waiting_in v.items f ≡ [])) }
+    ensures each { IfOk result (λ v. ((f : ℕ) (d : FrameQueue) → f < highest Frame + 1 →
+        ((slice_index_or v.items f d).places ≡ places_given places.now f) × ((slice_index_or v.items f d).list.items ≡ []))) }
 {
-    let size = limits_of(Field::Frame).high as usize + 1;
-    let mut queues = Vec::with_capacity(heap, size)?;
-    for frame in 0..size {
-        queues.push(FrameQueue::new(heap, given(places, frame))?)?;
-    }
-    Ok(queues)
+    (0..FRAMES)
+        .map(|frame| FrameQueue::new(heap, given(places, frame)))
+        .try_collect(heap)
 }
 
 impl RankedBuffer {
@@ -50,9 +47,7 @@ impl RankedBuffer {
 }
 
 impl SendBuffer for RankedBuffer {
-    ghost places = { λ b. places_in b.queues.items };
-
-    ghost waiting = { λ b. waiting_in b.queues.items };
+    ghost meaning = { λ b. meaning_of b.queues.items };
 
     ghost sound = { λ b. SoundQueues b.queues.items };
 
@@ -66,32 +61,27 @@ impl SendBuffer for RankedBuffer {
 
     fn put(&mut self, frame: u16, instance: Instance) -> Result<(), Refusal> {
         if !in_range(frame, instance) {
-            return Err(refused(Reason::OutOfRange, frame as u32));
+            return Err(Place::Buffer.refuses(Reason::OutOfRange, u32::from(frame)));
         }
-        match self.queues[frame as usize].put(instance) {
-            Ok(()) => Ok(()),
-            Err(_) => Err(refused(Reason::PlacesFull, frame as u32)),
-        }
+        let full = Place::Buffer.refuses(Reason::PlacesFull, u32::from(frame));
+        self.queues[usize::from(frame)]
+            .put(instance)
+            .map_err(|_| full)
     }
 
     fn take(&mut self, frame: u16) -> Option<Instance> {
-        if !admits(Field::Frame, frame as u64) {
-            return None;
-        }
-        self.queues[frame as usize].take()
+        self.queues.get_mut(usize::from(frame))?.take()
     }
 
     fn places_of(&self, frame: u16) -> u32 {
-        if !admits(Field::Frame, frame as u64) {
-            return 0;
-        }
-        self.queues[frame as usize].places()
+        self.queues
+            .get(usize::from(frame))
+            .map_or(0, |queue| queue.places())
     }
 
     fn waiting_for(&self, frame: u16) -> u32 {
-        if !admits(Field::Frame, frame as u64) {
-            return 0;
-        }
-        self.queues[frame as usize].waiting()
+        self.queues
+            .get(usize::from(frame))
+            .map_or(0, |queue| queue.waiting())
     }
 }

@@ -1,6 +1,5 @@
 // Lists of puts and takes, carried out on any buffer.
 ghost use Rattle.std.specs.Prelude.{◌≡◌, IfOk, OnErr};
-ghost use Rattle.buffers.specs.Buffer.{meant};
 ghost use Rattle.buffers.specs.Runs.{Same, Step, Ran};
 
 use crate::buffer::SendBuffer;
@@ -24,10 +23,8 @@ pub enum BufferAnswer {
 
 // Carries out one call.
 fn answer<B: SendBuffer>(buffer: &mut B, call: BufferCall) -> BufferAnswer
-    ensures step { B.SendBuffer.sound buffer.old →
-        Step (meant B.SendBuffer.places B.SendBuffer.waiting buffer.old) call result
-        (meant B.SendBuffer.places B.SendBuffer.waiting buffer.new) }
-    ensures sound { B.SendBuffer.sound buffer.old → B.SendBuffer.sound buffer.new }
+    ensures step { B.sound buffer.old → Step (B.meaning buffer.old) call result (B.meaning buffer.new) }
+    ensures sound { B.sound buffer.old → B.sound buffer.new }
 {
     match call {
         BufferCall::Put(frame, instance) => BufferAnswer::Put(buffer.put(frame, instance)),
@@ -42,10 +39,8 @@ pub fn carry_out<B: SendBuffer>(
     buffer: &mut B,
     calls: &[BufferCall],
 ) -> Result<Vec<BufferAnswer>, AllocError>
-    ensures ran { B.SendBuffer.sound buffer.old →
-        IfOk result (λ v. Ran (meant B.SendBuffer.places B.SendBuffer.waiting buffer.old) calls.now v.items
-        (meant B.SendBuffer.places B.SendBuffer.waiting buffer.new)) }
-    ensures sound { B.SendBuffer.sound buffer.old → B.SendBuffer.sound buffer.new }
+    ensures ran { B.sound buffer.old → IfOk result (λ v. Ran (B.meaning buffer.old) calls.now v.items (B.meaning buffer.new)) }
+    ensures sound { B.sound buffer.old → B.sound buffer.new }
     ensures unchanged { OnErr result (buffer.new ≡ buffer.old) }
 {
     let mut answers = Vec::with_capacity(heap, calls.len())?;
@@ -70,18 +65,11 @@ pub fn carry_out_on_both<B: SendBuffer, C: SendBuffer>(
     right: &mut C,
     calls: &[BufferCall],
 ) -> Result<BothAnswers, AllocError>
-    ensures ran_left { B.SendBuffer.sound left.old →
-        IfOk result (λ v. Ran (meant B.SendBuffer.places B.SendBuffer.waiting left.old) calls.now v.left.items
-        (meant B.SendBuffer.places B.SendBuffer.waiting left.new)) }
-    ensures ran_right { C.SendBuffer.sound right.old →
-        IfOk result (λ v. Ran (meant C.SendBuffer.places C.SendBuffer.waiting right.old) calls.now v.right.items
-        (meant C.SendBuffer.places C.SendBuffer.waiting right.new)) }
-    ensures alike { B.SendBuffer.sound left.old → C.SendBuffer.sound right.old →
-        Same (meant B.SendBuffer.places B.SendBuffer.waiting left.old) (meant C.SendBuffer.places C.SendBuffer.waiting right.old) →
-        IfOk result (λ v. (v.right.items ≡ v.left.items) ×
-        Same (meant B.SendBuffer.places B.SendBuffer.waiting left.new) (meant C.SendBuffer.places C.SendBuffer.waiting right.new)) }
-    ensures sound { (B.SendBuffer.sound left.old → B.SendBuffer.sound left.new) ×
-        (C.SendBuffer.sound right.old → C.SendBuffer.sound right.new) }
+    ensures ran_left { B.sound left.old → IfOk result (λ v. Ran (B.meaning left.old) calls.now v.left.items (B.meaning left.new)) }
+    ensures ran_right { C.sound right.old → IfOk result (λ v. Ran (C.meaning right.old) calls.now v.right.items (C.meaning right.new)) }
+    ensures alike { B.sound left.old → C.sound right.old → Same (B.meaning left.old) (C.meaning right.old) →
+        IfOk result (λ v. (v.right.items ≡ v.left.items) × Same (B.meaning left.new) (C.meaning right.new)) }
+    ensures sound { (B.sound left.old → B.sound left.new) × (C.sound right.old → C.sound right.new) }
     ensures unchanged { OnErr result (right.new ≡ right.old) }
 {
     let left = carry_out(heap, left, calls)?;

@@ -1,5 +1,8 @@
 -- What the lookups of the slot rules find in the rows of a plan, and what the checks of a release say.
 use Rattle.std.proofs.Common.{◌≡◌, ℕ, ◌<◌, ◌≤◌, Bool, true, false, not, ◌&&◌, eqb, ltb, leb, List, [], ◌∷◌, is_some, Some, None, Option, sym, refl, ap, ◌∙◌, arith}
+use denote.Ref.{Bor}
+use Rattle.std.specs.Option as options
+use Rattle.std.specs.Option.{option_map}
 use Rattle.std.proofs.lemmas.Bool.{eqb-true, eq-eqb, and_parts, leb-true, ltb-false, eqb-false, le-ltb}
 use Rattle.fields.specs.Refusals.{first_reason}
 use Rattle.fields.specs.declared.refusal.Reason.{Reason}
@@ -15,6 +18,11 @@ use Rattle.slots.proofs.Sums.{first_in, first_found}
 -- the row that is found is one of the rows, and has the number
 pub found_row : (rows : List Row) (m : ℕ) (i : Row) → row_of rows m ≡ Some i → In i rows × (i.entry.number ≡ m)
 found_row rows m i e = let h = first_in (λ r. eqb r.entry.number m) rows i e in (h.0, eqb-true i.entry.number m h.1)
+
+-- what a lookup answers of the row that it finds, or else 0
+pub latest_found : (o : Option (Bor Row)) (n : ℕ) → options.MatchOption o (n ≡ 0) (λ r. n ≡ r.now.entry.latest) → n ≡ latest_in (option_map (λ r. r.now) o)
+latest_found None n e = e
+latest_found (Some r) n e = e
 
 module _ (bus : Bus) (b : Book) (s : b.State) (rows : List Row) (table : SoundTable bus b s rows) where
   pub planned_row_of : (i : Row) → In i rows → (m : ℕ) → i.entry.number ≡ m → row_of rows m ≡ Some i

@@ -1,11 +1,10 @@
 -- Sums and tallies over lists, and what stands in a list.
-use Rattle.std.proofs.Common.{◌≡◌, ℕ, zero, suc, ◌+◌, ◌*◌, ◌<◌, ◌≤◌, Bool, true, false, cond, List, [], ◌∷◌, ◌++◌, length, get_or, drop, Some, None, Option, sym, refl, ap, ◌∙◌, subst, inl, inr, ⊎_elim, arith}
-use Rattle.std.specs.List.{AllByRecursion}
-use Rattle.std.proofs.lemmas.List.{at_drop_more, at_drop_all}
+use Rattle.std.proofs.Common.{◌≡◌, ℕ, zero, suc, ◌+◌, ◌*◌, ◌<◌, ◌≤◌, Bool, true, false, cond, List, [], ◌∷◌, ◌++◌, Some, Option, sym, refl, ap, subst, inl, inr, ⊎_elim, arith}
+use Rattle.std.specs.List.{AllByRecursion, find}
 use Rattle.std.proofs.lemmas.Bool.{cases_eq, cases_Bool}
 use Rattle.books.specs.Book.{tally}
 use Rattle.delay.specs.Delay.{total}
-use Rattle.slots.specs.Rows.{In, first}
+use Rattle.slots.specs.Rows.{In}
 use Rattle.slots.specs.Runs.{over_frames}
 
 -- what holds of all holds of each, and the other way round
@@ -91,7 +90,7 @@ frames_none g zero e = refl
 frames_none g (suc n) e = omega (arith, e (suc n), frames_none g n e)
 
 -- the first that passes a test passes it, and stands in the list
-pub first_in : {X : Type 0} (p : X → Bool) (xs : List X) (x : X) → first p xs ≡ Some x → In x xs × (p x ≡ true)
+pub first_in : {X : Type 0} (p : X → Bool) (xs : List X) (x : X) → find p xs ≡ Some x → In x xs × (p x ≡ true)
 first_in p [] x e = let z : ◌≡◌ {A = ℕ} 0 1 = cc in absurd (omega arith)
 first_in {X} p (y ∷ ys) x e =
     ⊎_elim
@@ -100,29 +99,14 @@ first_in {X} p (y ∷ ys) x e =
     let same : y ≡ x = cc in
     (inl (sym same), subst (λ z. p z ≡ true) same q))
     (λ (q : p y ≡ false).
-    let rest : first p ys ≡ Some x = rw q at e in
+    let rest : find p ys ≡ Some x = rw q at e in
     let h = first_in p ys x rest in (inr h.0, h.1))
     (cases_Bool (p y))
 
 -- where one passes, there is a first
-pub first_found : {X : Type 0} (p : X → Bool) (xs : List X) (x : X) → In x xs → p x ≡ true → (y : X) × (first p xs ≡ Some y)
+pub first_found : {X : Type 0} (p : X → Bool) (xs : List X) (x : X) → In x xs → p x ≡ true → (y : X) × (find p xs ≡ Some y)
 first_found p [] x m q = absurd m
 first_found p (z ∷ zs) x (inl s) q = (z, let here : p z ≡ true = subst (λ v. p v ≡ true) s q in rw here)
 first_found p (z ∷ zs) x (inr m) q =
     let h = first_found p zs x m q in
     ⊎_elim (λ (e : p z ≡ true). (z, rw e)) (λ (e : p z ≡ false). (h.0, rw e h.1)) (cases_Bool (p z))
-
--- a loop that looks for the first
-module _ {X : Type 0} (p : X → Bool) (xs : List X) (i : ℕ) (left : first p (drop i xs) ≡ first p xs) where
-  read : (x : X) → i < length xs → x ≡ get_or xs i x → cond (p x) (Some x) (first p (drop (i + 1) xs)) ≡ first p xs
-  read x l e = let here : first p (drop i xs) ≡ first p (x ∷ drop (i + 1) xs) = at_drop_more (first p) xs i x l ∙ ap
-      (λ y. first p (y ∷ drop (i + 1) xs)) (sym e) in sym here ∙ left
-
-  pub first_here : (x : X) → i < length xs → x ≡ get_or xs i x → p x ≡ true → Some x ≡ first p xs
-  first_here x l e q = rw q at (read x l e)
-
-  pub first_on : (x : X) → i < length xs → x ≡ get_or xs i x → p x ≡ false → first p (drop (i + 1) xs) ≡ first p xs
-  first_on x l e q = rw q at (read x l e)
-
-  pub first_end : length xs ≤ i → None ≡ first p xs
-  first_end l = let end : first p (drop i xs) ≡ None = at_drop_all (first p) xs i l in sym end ∙ left

@@ -1,5 +1,6 @@
 -- What the rows of a plan say of a message and of a frame, and which rows a bench may stand on.
-use Rattle.std.specs.Prelude.{◌≡◌, ℕ, ◌+◌, ◌≤◌, Bool, true, cond, ◌⊎◌, List, [], ◌∷◌, Some, None, Option, ◌==◌, nat_eq}
+use Rattle.std.specs.Prelude.{◌≡◌, ℕ, ◌+◌, ◌≤◌, true, cond, ◌⊎◌, List, [], ◌∷◌, Some, None, Option, ◌==◌, nat_eq}
+use Rattle.std.specs.List.{find}
 use Rattle.books.specs.Book.{Book}
 use Rattle.delay.specs.Delay.{total, Meets}
 use Rattle.delay.specs.declared.bus.Bus.{Bus}
@@ -10,14 +11,9 @@ abbrev pub In : {X : Type 0} → X → List X → Type 0
 In x [] = ⊥
 In x (y ∷ ys) = (x ≡ y) ⊎ In x ys
 
--- The first element that passes a test.
-abbrev pub first : {X : Type 0} → (X → Bool) → List X → Option X
-first p [] = None
-first p (x ∷ xs) = cond (p x) (Some x) (first p xs)
-
 -- The row of a message, where the plan has it.
 abbrev pub row_of : List Row → ℕ → Option Row
-row_of rows m = first (λ r. nat_eq r.entry.number m) rows
+row_of rows m = find (λ r. nat_eq r.entry.number m) rows
 
 -- The minislots that a message takes; those of an empty slot where the plan has no such message.
 abbrev pub size_in : Option Row → ℕ
@@ -33,7 +29,7 @@ latest_in None = 0
 latest_in (Some r) = r.entry.latest
 
 abbrev pub last_start_of : List Row → ℕ → ℕ
-last_start_of rows f = latest_in (first (λ r. nat_eq r.entry.frame f) rows)
+last_start_of rows f = latest_in (find (λ r. nat_eq r.entry.frame f) rows)
 
 -- The places that a frame needs: for each of its messages, the releases that a stretch as long as the delay may hold.
 unfoldable pub needs : (ℕ → ℕ → ℕ) → List Row → ℕ → ℕ

@@ -22,8 +22,8 @@ pub const CYCLES: u32 = 1_000_000;
 // every call has one answer.
 pub fn first_position<B: ReleaseBook>(_book: &B) -> Position
     ensures begins { result ≡ record { cycle = 0; minislot = 1; slot = 1 } }
-    ensures delays { DelaysHold B.ReleaseBook.book }
-    ensures answers { OneAnswer B.ReleaseBook.book }
+    ensures delays { DelaysHold B.book }
+    ensures answers { OneAnswer B.book }
 {
     Position {
         cycle: 0,
@@ -32,7 +32,7 @@ pub fn first_position<B: ReleaseBook>(_book: &B) -> Position
     }
 }
 
-// The time at which the next slot of a position begins.
+// The time at which the next slot of a position begins. Bus and position come as two: a bench keeps the one and moves the other.
 pub fn clock(bus: &Bus, position: &Position) -> u64
     ensures value { result ≡ clock_of bus.now position.now }
     ensures bound { result < 2 ^ 47 }
@@ -52,17 +52,9 @@ pub fn allows(
 ) -> bool
     ensures { result ≡ allowed bus.now position.now released started time }
 {
-    if let Some(last) = released {
-        if time < last {
-            return false;
-        }
-    }
-    if let Some(start) = started {
-        if time <= start {
-            return false;
-        }
-    }
-    time <= clock(bus, position)
+    released.is_none_or(|last| last <= time)
+        && started.is_none_or(|start| start < time)
+        && time <= clock(bus, position)
 }
 
 // Whether a slot is run at a position: not once the cycles are over.
@@ -70,11 +62,7 @@ pub fn may_run(position: &Position) -> Result<(), Refusal>
     ensures { Verdict (run_checks position.now) place.Bench position.now.cycle (λ _. Unit {0}) result }
 {
     if position.cycle == CYCLES {
-        return Err(Refusal {
-            reason: Reason::CyclesOver,
-            place: Place::Bench,
-            concerns: position.cycle,
-        });
+        return Err(Place::Bench.refuses(Reason::CyclesOver, position.cycle));
     }
     Ok(())
 }
@@ -103,32 +91,21 @@ pub fn onward(bus: &Bus, position: Position, used: u16) -> Position
 pub fn row_of(rows: &[Row], message: u16) -> Option<Row>
     ensures { result ≡ row_of rows.now message }
 {
-    for row in rows {
-        if row.entry.number == message {
-            return Some(*row);
-        }
-    }
-    None
+    rows.iter().find(|row| row.entry.number == message).copied()
 }
 
 // The minislots that a message takes, or the one of an empty slot where the plan has no such message.
 pub fn size_of(rows: &[Row], message: u16) -> u16
     ensures { result ≡ size_of rows.now message }
 {
-    match row_of(rows, message) {
-        Some(row) => row.entry.size,
-        None => 1,
-    }
+    row_of(rows, message).map_or(1, |row| row.entry.size)
 }
 
 // The minislots that a slot takes: the size of what it sends, or the one of an empty slot.
 pub fn used(rows: &[Row], sends: Option<Instance>) -> u16
     ensures { result ≡ used_by rows.now sends }
 {
-    match sends {
-        Some(x) => size_of(rows, x.message),
-        None => 1,
-    }
+    sends.map_or(1, |x| size_of(rows, x.message))
 }
 
 // What the run of a slot reports that sends an instance, or nothing.
@@ -144,14 +121,11 @@ pub fn report_of(
     ensures sent { result.sent ≡ sent_from bus.now rows.now (clock_of bus.now position.now) sends }
 {
     let start = clock(bus, position);
-    let sent = match sends {
-        Some(x) => Some(Sent {
-            message: x.message,
-            release: x.release,
-            finish: start + u64::from(size_of(rows, x.message)) * u64::from(bus.minislot),
-        }),
-        None => None,
-    };
+    let sent = sends.map(|x| Sent {
+        message: x.message,
+        release: x.release,
+        finish: start + u64::from(size_of(rows, x.message)) * u64::from(bus.minislot),
+    });
     SlotReport {
         cycle: position.cycle,
         slot: position.slot,
@@ -160,14 +134,11 @@ pub fn report_of(
     }
 }
 
-// The last minislot in which a frame may start, or 0 where the plan has no message of the frame.
+// The last minislot in which a frame may start. Minislots count from 1, so 0 says never: the plan has no message of it.
 pub fn last_start(rows: &[Row], frame: u16) -> u16
     ensures { result ≡ last_start_of rows.now frame }
 {
-    for row in rows {
-        if row.entry.frame == frame {
-            return row.entry.latest;
-        }
-    }
-    0
+    rows.iter()
+        .find(|row| row.entry.frame == frame)
+        .map_or(0, |row| row.entry.latest)
 }

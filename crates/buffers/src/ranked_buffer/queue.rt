@@ -22,7 +22,7 @@ impl FrameQueue {
     pub fn new(heap: Global, places: u16) -> Result<FrameQueue, AllocError>
         ensures { IfOk result (λ q. (q.places ≡ places) × (q.list.items ≡ [])) }
     {
-        let list = Vec::with_capacity(heap, places as usize)?;
+        let list = Vec::with_capacity(heap, usize::from(places))?;
         Ok(FrameQueue { places, list })
     }
 
@@ -35,7 +35,7 @@ impl FrameQueue {
         ensures ordered { Ascending upto self.old.list.items → Ascending upto self.new.list.items }
         ensures places { self.new.places ≡ self.old.places }
     {
-        if self.list.len() >= self.places as usize {
+        if self.list.len() >= usize::from(self.places) {
             return Err(instance);
         }
         insert(&mut self.list, instance)
@@ -48,6 +48,7 @@ impl FrameQueue {
             (λ x. self.old.list.items ≡ x ∷ self.new.list.items) }
         ensures places { self.new.places ≡ self.old.places }
     {
+        // Vec has no call that takes out its first where it has one, and a queue with such a call has no ranked insert.
         if self.list.is_empty() {
             return None;
         }
@@ -57,7 +58,7 @@ impl FrameQueue {
     pub fn places(&self) -> u32
         ensures { result ≡ self.now.places }
     {
-        self.places as u32
+        u32::from(self.places)
     }
 
     // How many instances wait.

@@ -1,5 +1,4 @@
 use Rattle.std.proofs.Common.{◌≡◌, ◌≤◌, length, take, vec_items, vec_len, vec_capacity}
-use Rattle.buffers.specs.Buffer.{meant}
 use Rattle.buffers.specs.Runs.{Carried}
 use Rattle.buffers.proofs.runs.carry_out.Given as goal
 
@@ -8,5 +7,4 @@ invariant-loop-call g l =
     let b = g.B.SendBuffer in
     (vec_len l.answers ≡ l.call-index) × (length l.calls ≤ vec_capacity l.answers)
     × (b.sound l.initial.buffer → b.sound l.buffer)
-    × (b.sound l.initial.buffer
-    → Carried (meant b.places b.waiting l.initial.buffer) (take l.call-index l.calls) (vec_items l.answers) (meant b.places b.waiting l.buffer))
+    × (b.sound l.initial.buffer → Carried (b.meaning l.initial.buffer) (take l.call-index l.calls) (vec_items l.answers) (b.meaning l.buffer))

@@ -6,15 +6,13 @@ use Rattle.bench.proofs.bench.Bench.carry_out.Goals as goal
 
 pub loop-call-init : goal.loop-call-init
 loop-call-init g c =
-    let k = kinds g.B.ReleaseBook.book g.B.ReleaseBook.meaning g.S.SendBuffer.places g.S.SendBuffer.waiting
-    g.S.SendBuffer.sound in
+    let k = kinds g.B.ReleaseBook.book g.B.ReleaseBook.meaning g.S.SendBuffer.meaning g.S.SendBuffer.sound in
     let made = c.in_ok-answers.ensures in
     (made.len, made.capacity, rw made.items (none_yet k c.args.self.now))
 
 pub loop-call-preserved : goal.loop-call-preserved
 loop-call-preserved g c =
-    let k = kinds g.B.ReleaseBook.book g.B.ReleaseBook.meaning g.S.SendBuffer.places g.S.SendBuffer.waiting
-    g.S.SendBuffer.sound in
+    let k = kinds g.B.ReleaseBook.book g.B.ReleaseBook.meaning g.S.SendBuffer.meaning g.S.SendBuffer.sound in
     let before = c.loop-call.invariant in
     let given = vec_items c.loop-call.answers in
     let size : length given ≡ c.loop-call.call-index = omega (arith, before.0, c.loop-call.answers.ok.0) in (
@@ -27,8 +25,7 @@ loop-call-preserved g c =
 
 pub returns : goal.returns
 returns g c =
-    let k = kinds g.B.ReleaseBook.book g.B.ReleaseBook.meaning g.S.SendBuffer.places g.S.SendBuffer.waiting
-    g.S.SendBuffer.sound in
+    let k = kinds g.B.ReleaseBook.book g.B.ReleaseBook.meaning g.S.SendBuffer.meaning g.S.SendBuffer.sound in
     let all = take_all c.loop-call.call-index c.args.calls.now c.loop-call-test.false in
     let given = vec_items c.loop-call.answers in
     let size : length given ≡ length c.args.calls.now = omega (

@@ -5,8 +5,7 @@ use Rattle.bench.proofs.bench.Bench.position.Goals as goal
 
 pub returns : goal.returns
 returns g c =
-    let k = kinds g.B.ReleaseBook.book g.B.ReleaseBook.meaning g.S.SendBuffer.places g.S.SendBuffer.waiting
-    g.S.SendBuffer.sound in
+    let k = kinds g.B.ReleaseBook.book g.B.ReleaseBook.meaning g.S.SendBuffer.meaning g.S.SendBuffer.sound in
     record {
       same_bus = refl;
       same_rows = refl;

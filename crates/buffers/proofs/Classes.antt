@@ -3,12 +3,13 @@ use Rattle.std.specs.Prelude.{◌≡◌, ℕ, zero, suc, ◌<◌, ◌≤◌, tru
 use Rattle.std.proofs.Common.{sym, ap, ◌∙◌, ⊎_elim, arith}
 use Rattle.std.specs.List.{AllByRecursion}
 use Rattle.std.proofs.lemmas.List.Elements.{filter-append}
-use Rattle.std.proofs.ByRecursion.{All-append, all_kept_by, All-weaker, kept_by_passes}
+use Rattle.std.proofs.ByRecursion.{All-append, All-weaker, kept_by_passes}
 use Rattle.std.proofs.lemmas.List.{append_assoc, append-nil}
 use Rattle.std.proofs.lemmas.Bool.{cases_lt, cond-true, cond-false, eqb-true, eq-eqb, ne_eqb, le-leb, lt-leb}
-use Rattle.ranked.specs.Ranks.{Ascending, Placed}
+use Rattle.ranked.specs.Ranks.{Placed}
 use Rattle.buffers.specs.Buffer.{upto, of_priority}
 use Rattle.buffers.specs.Pooled.{up_to_priority}
+use Rattle.buffers.specs.PoolLaws.{read_upto}
 use Rattle.buffers.specs.declared.instance.Instance.{Instance}
 
 -- nothing is of a priority that no element has
@@ -37,25 +38,10 @@ below_out (suc n) x xs ys l =
     let here = other_out (suc n) x xs ys (λ e. omega arith) in
     rw (rest, here)
 
--- what is read out keeps what holds of each element
-pub all_read : (P : Instance → Type 0) (n : ℕ) (xs : List Instance) → AllByRecursion P xs → AllByRecursion P (up_to_priority n xs)
-unfolding up_to_priority
-all_read P zero xs all = tt
-all_read P (suc n) xs all = All-append P (up_to_priority n xs) (of_priority (suc n) xs) (all_read P n xs all) (all_kept_by (λ x. nat_eq x.priority (suc n)) P xs all)
-
 pub none_read : (n : ℕ) → up_to_priority n [] ≡ []
 unfolding up_to_priority
 none_read zero = refl
 none_read (suc n) = rw (none_read n)
-
--- no priority above n is read out
-read_upto : (n : ℕ) (xs : List Instance) → AllByRecursion (λ x. x.priority ≤ n) (up_to_priority n xs)
-unfolding up_to_priority
-read_upto zero xs = tt
-read_upto (suc n) xs = All-append (λ x. x.priority ≤ suc n) (up_to_priority n xs) (of_priority (suc n) xs)
-    (All-weaker (λ x. x.priority ≤ n) (λ x. x.priority ≤ suc n) (λ x l. omega arith) (up_to_priority n xs) (read_upto n xs))
-    (All-weaker (λ x. (x.priority == suc n) ≡ true) (λ x. x.priority ≤ suc n) (λ x e. let same = eqb-true x.priority (suc n) e in omega arith)
-    (of_priority (suc n) xs) (kept_by_passes (λ x. nat_eq x.priority (suc n)) xs))
 
 -- an instance put between those that are no less urgent and those that are
 pub record Between (x : Instance) (old new : List Instance) : Type 0 where
@@ -147,26 +133,3 @@ first_read (suc n) x xs ys some l before after = ⊎_elim
     let rest = filter-append (λ y. nat_eq y.priority (suc n)) xs ys in
     first_of_class x _ _ _ _ _ _ with-x without none own rest)
     (cases_lt x.priority (suc n))
-
--- elements of one priority ascend, and so they do behind those of smaller ones
-equal_ascends : (p : ℕ) (ys : List Instance) → AllByRecursion (λ y. y.priority ≡ p) ys → Ascending upto ys
-equal_ascends p [] all = tt
-equal_ascends p (y ∷ ys) all = (
-  All-weaker (λ z. z.priority ≡ p) (λ z. upto y z ≡ true) (λ z e. le-leb y.priority z.priority (omega (arith, all.0))) ys all.1,
-  equal_ascends p ys all.1,
-)
-
-class_ascends : (p : ℕ) (xs ys : List Instance) → Ascending upto xs → AllByRecursion (λ x. x.priority ≤ p) xs → AllByRecursion (λ y. y.priority ≡ suc p) ys → Ascending upto (xs ++ ys)
-class_ascends p [] ys asc low same = equal_ascends (suc p) ys same
-class_ascends p (x ∷ xs) ys asc low same = (
-  All-append (λ y. upto x y ≡ true) xs ys asc.0
-      (All-weaker (λ y. y.priority ≡ suc p) (λ y. upto x y ≡ true) (λ y e. le-leb x.priority y.priority (omega (arith, low.0))) ys same),
-  class_ascends p xs ys asc.1 low.1 same,
-)
-
-pub read_ascends : (n : ℕ) (xs : List Instance) → Ascending upto (up_to_priority n xs)
-unfolding up_to_priority
-read_ascends zero xs = tt
-read_ascends (suc n) xs = class_ascends n (up_to_priority n xs) (of_priority (suc n) xs) (read_ascends n xs) (read_upto n xs)
-    (All-weaker (λ y. (y.priority == suc n) ≡ true) (λ y. y.priority ≡ suc n) (λ y e. eqb-true y.priority (suc n) e)
-    (of_priority (suc n) xs) (kept_by_passes (λ y. nat_eq y.priority (suc n)) xs))
