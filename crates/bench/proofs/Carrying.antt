@@ -25,9 +25,6 @@ pub record SoFar {B S : Type 0} (k : Kinds B S) (x : Bench B S) (cs : List Call)
   pub course : (from : State k.book) (past : List Answered) → Course k from past x → Course k from (followed past cs given) y
   pub places : (from : State k.book) (past : List Answered) → Course k from past x → (f : ℕ) → (k.buffer y.buffer).places f ≡ (k.buffer x.buffer).places f
 
-pub none_yet : {B S : Type 0} (k : Kinds B S) (x : Bench B S) → SoFar k x [] [] x
-none_yet k x = record { same_bus = refl; same_rows = refl; course = λ from past course. course; places = λ from past course f. refl }
-
 pub one_more : {B S : Type 0} (k : Kinds B S) (x y z : Bench B S) (cs : List Call) (i : ℕ) (given new : List Answer) (a : Answer) (d : Call)
     → i < length cs → length given ≡ i → new ≡ given ++ a ∷ []
     → SoFar k x (take i cs) given y → Kept k y (get_or cs i d) a z → SoFar k x (take (i + 1) cs) new z

@@ -4,7 +4,7 @@ use Rattle.std.proofs.Common.{sym, ap, subst, ◌∙◌, inr, ⊎_elim, arith}
 use Rattle.std.specs.List.{remove, AllByRecursion}
 use Rattle.std.proofs.lemmas.List.Elements.{filter-append}
 use Rattle.std.proofs.ByRecursion.{All-append, All-push}
-use Rattle.std.proofs.lemmas.List.{append-nil, get_or-map, get_or_at, get_or_past, get_or-set_same, get_or-set_other, length-append, length-map, map-append, map-set}
+use Rattle.std.proofs.lemmas.List.{append-nil, get_or-map, get_or_at, get_or_past, get_or-set_same, get_or-set_other, length-map, map-append, map-set}
 use Rattle.std.proofs.lemmas.List.Sums.{get_or-le-sum_by, sum_by-set}
 use Rattle.std.proofs.Math.Seq.{map-set_same}
 use Rattle.std.proofs.lemmas.Bool.{and_parts, cases_lt, cases_eq, cond-true, cond-false, eq-eqb, leb-true, ne_eqb}
@@ -60,10 +60,6 @@ counted_after places free f n old new l before there same k = ⊎_elim
     (λ e. subst (λ j. slice_index (slice_set free f n) j + new j ≡ slice_index places j) (sym e) (ap (λ a. a + new f) (get_or-set_same free f n 0 l) ∙ there))
     (λ ne. rw (get_or-set_other free f k n 0 ne, same k ne) (before k))
     (cases_eq k f)
-
--- the next one is held
-pub next_held : (f : ℕ) (hs : List Held) (at : ℕ) → Next f hs at → at < length hs
-next_held f hs at n = omega (arith, ap length n.parts ∙ length-append n.front (n.chosen ∷ n.back))
 
 removed_at : (front : List Held) (h : Held) (back : List Held) → remove (front ++ h ∷ back) (length front) ≡ front ++ back
 removed_at [] h back = refl

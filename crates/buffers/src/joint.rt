@@ -1,5 +1,5 @@
 // The joint buffer: two buffers side by side, of any kinds.
-ghost use Rattle.std.specs.Prelude.{◌≡◌};
+ghost use Rattle.std.specs.Prelude.{◌≡◌, nat_lt};
 ghost use Rattle.buffers.specs.Joint.{joined, sides};
 ghost use Rattle.std.proofs.Common.{rules};
 
@@ -22,6 +22,13 @@ impl<L: SendBuffer, R: SendBuffer> JointBuffer<L, R> {
     {
         JointBuffer { left, right }
     }
+
+    // Whether the left serves a frame.
+    fn left_serves(&self, frame: u16) -> bool
+        ensures { L.sound self.now.left → result ≡ nat_lt 0 ((L.meaning self.now.left).places frame) }
+    {
+        self.left.places_of(frame) > 0
+    }
 }
 
 impl<L: SendBuffer, R: SendBuffer> SendBuffer for JointBuffer<L, R> {
@@ -38,7 +45,7 @@ impl<L: SendBuffer, R: SendBuffer> SendBuffer for JointBuffer<L, R> {
     ghost outside = { Prim.search rules };
 
     fn put(&mut self, frame: u16, instance: Instance) -> Result<(), Refusal> {
-        if self.left.places_of(frame) > 0 {
+        if self.left_serves(frame) {
             self.left.put(frame, instance)
         } else {
             self.right.put(frame, instance)
@@ -46,7 +53,7 @@ impl<L: SendBuffer, R: SendBuffer> SendBuffer for JointBuffer<L, R> {
     }
 
     fn take(&mut self, frame: u16) -> Option<Instance> {
-        if self.left.places_of(frame) > 0 {
+        if self.left_serves(frame) {
             self.left.take(frame)
         } else {
             self.right.take(frame)
@@ -54,16 +61,15 @@ impl<L: SendBuffer, R: SendBuffer> SendBuffer for JointBuffer<L, R> {
     }
 
     fn places_of(&self, frame: u16) -> u32 {
-        let places = self.left.places_of(frame);
-        if places > 0 {
-            places
+        if self.left_serves(frame) {
+            self.left.places_of(frame)
         } else {
             self.right.places_of(frame)
         }
     }
 
     fn waiting_for(&self, frame: u16) -> u32 {
-        if self.left.places_of(frame) > 0 {
+        if self.left_serves(frame) {
             self.left.waiting_for(frame)
         } else {
             self.right.waiting_for(frame)

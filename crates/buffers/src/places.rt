@@ -1,5 +1,5 @@
 // How places are handed over when a buffer is made: the first number is for frame 1, and frames past the end have none.
-ghost use Rattle.std.specs.Prelude.{◌≡◌, ◌<◌, length, sum, MatchResult};
+ghost use Rattle.std.specs.Prelude.{◌≡◌, length, MatchResult};
 ghost use Rattle.buffers.specs.Places.{Fits, FirstUnfit, places_given};
 
 use fields::limits::{Field, admits};
@@ -11,12 +11,10 @@ pub(crate) const MOST: u32 = 256;
 // The numbers of a table by frame: those from 0 to the highest frame.
 pub(crate) const FRAMES: usize = 2048;
 
-// The sum of the places, where no frame is out of range and the sum is not too large. Else the lowest frame is refused where
-// this shows.
-pub(crate) fn total(places: &[u16]) -> Result<u32, Refusal>
-    ensures { MatchResult result
-        (λ n. (n ≡ sum places.now) × Fits places.now (length places.now))
-        (FirstUnfit places.now) }
+// Whether no frame is out of range and the places are not too many together. Else the lowest frame is refused where this
+// shows.
+pub(crate) fn fit(places: &[u16]) -> Result<(), Refusal>
+    ensures { MatchResult result (λ _. Fits places.now (length places.now)) (FirstUnfit places.now) }
 {
     let mut total = 0;
     for (before, more) in places.iter().enumerate() {
@@ -26,7 +24,7 @@ pub(crate) fn total(places: &[u16]) -> Result<u32, Refusal>
             return Err(Place::Buffer.refuses(Reason::OutOfRange, frame));
         }
     }
-    Ok(total)
+    Ok(())
 }
 
 // The places of one frame. Frame 0 has none.

@@ -10,7 +10,7 @@ ghost use Rattle.buffers.specs.PoolLaws.{pool_in_range, read_ascends, none_outsi
 
 use crate::buffer::{SendBuffer, in_range};
 use crate::instance::Instance;
-use crate::places::{FRAMES, MOST, given, total};
+use crate::places::{FRAMES, MOST, fit, given};
 use fields::refusal::{MakingFault, Place, Reason, Refusal};
 use frame_places::FramePlaces;
 use held::{Held, next_for};
@@ -49,7 +49,7 @@ impl Pool {
         ensures { Making (λ b. pool_meaning (all_places b.frames.items) b.held.items)
             (λ b. SoundPool (all_places b.frames.items) (free_places b.frames.items) b.held.items) places.now result }
     {
-        let _total = total(places)?;
+        fit(places)?;
         let held = Vec::with_capacity(heap, MOST as usize)?;
         let frames = frames(heap, places)?;
         Ok(Pool { frames, held })

@@ -10,7 +10,7 @@ ghost use Rattle.std.proofs.Common.{arith};
 
 use crate::buffer::{SendBuffer, in_range};
 use crate::instance::Instance;
-use crate::places::{FRAMES, given, total};
+use crate::places::{FRAMES, fit, given};
 use fields::refusal::{MakingFault, Place, Reason, Refusal};
 use queue::FrameQueue;
 use std::alloc::{AllocError, Global};
@@ -40,7 +40,7 @@ impl RankedBuffer {
     pub fn new(heap: Global, places: &[u16]) -> Result<RankedBuffer, MakingFault>
         ensures { Making (λ b. meaning_of b.queues.items) (λ b. SoundQueues b.queues.items) places.now result }
     {
-        let _total = total(places)?;
+        fit(places)?;
         let queues = queues(heap, places)?;
         Ok(RankedBuffer { queues })
     }

@@ -1,14 +1,8 @@
 use Rattle.std.proofs.Common.{◌≡◌, length, vec_items, arith}
 use Rattle.std.proofs.lemmas.List.{take_all}
 use Rattle.bench.specs.Benches.{kinds}
-use Rattle.bench.proofs.Carrying.{none_yet, one_more, all_kept}
+use Rattle.bench.proofs.Carrying.{one_more, all_kept}
 use Rattle.bench.proofs.bench.Bench.carry_out.Goals as goal
-
-pub loop-call-init : goal.loop-call-init
-loop-call-init g c =
-    let k = kinds g.B.ReleaseBook.book g.B.ReleaseBook.meaning g.S.SendBuffer.meaning g.S.SendBuffer.sound in
-    let made = c.in_ok-answers.ensures in
-    (made.len, made.capacity, rw made.items (none_yet k c.args.self.now))
 
 pub loop-call-preserved : goal.loop-call-preserved
 loop-call-preserved g c =

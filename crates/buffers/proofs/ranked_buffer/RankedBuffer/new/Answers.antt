@@ -6,5 +6,5 @@ pub returns : goal.returns
 returns c =
     let made = c.in_ok-queues.ensures in
     let qs = vec_items c.in_ok-queues.queues in
-    queues_new c.args.places.now qs (omega arith) c.in_ok-_total.ensures.1
+    queues_new c.args.places.now qs (omega arith) c.in_ok-fit.ensures
     (begun c.args.places.now qs (λ k d l. made.each k d (omega arith)))
