@@ -2,3 +2,4 @@ pub mod Decimal
 pub mod Fields
 pub mod Unique
 pub mod OfForms
+pub mod MapErr

@@ -1,7 +1,9 @@
 // The sheet of a table text, as text.
-ghost use Rattle.std.specs.Prelude.{◌≡◌, IfOk, string_bytes, MatchResult};
+ghost use Rattle.std.specs.Prelude.{◌≡◌, ◌==◌, IfOk, string_bytes, MatchResult};
+ghost use Rattle.std.specs.List.{find};
+ghost use Rattle.std.specs.Option.{option_copied};
 ghost use Rattle.texts.specs.Plans.{BookOf, NoBook, PlanOf, NoPlan, SheetOf, NoSheetOf, Printed};
-ghost use Rattle.texts.specs.Sheets.{text_of_row, text_of_sheet, text_of_fault, line_in, fault_at_message, fault_of_making};
+ghost use Rattle.texts.specs.Sheets.{text_of_row, text_of_sheet, text_of_fault, fault_at_message, fault_of_making};
 
 use crate::fault::{LineFault, RunFault, TableFault};
 use crate::table::{Origin, Table, read_table};
@@ -16,25 +18,22 @@ use std::alloc::{AllocError, Global};
 // The book of a table: its P lines are periodic, its W lines have windows.
 type TableBook = JointBook<PeriodicBook, WindowBook>;
 
-// The line of a message; 0 where the table has no such message.
-fn line_of_message(origins: &[Origin], message: u32) -> u32
-    ensures { result ≡ line_in origins.now message }
+// The origin of a message, where the table has it.
+fn origin_of(origins: &[Origin], message: u32) -> Option<&Origin>
+    ensures { option_copied result ≡ find (λ o. o.message == message) origins.now }
 {
-    for origin in origins {
-        if u32::from(origin.message) == message {
-            return origin.line;
-        }
-    }
-    0
+    origins
+        .iter()
+        .find(|origin| u32::from(origin.message) == message)
 }
 
-// A refusal that concerns a message, at that message's line.
+// A refusal that concerns a message, at that message's line; at line 0 where the table has no such message.
 fn at_message(origins: &[Origin], refusal: Refusal) -> TableFault
     ensures { result ≡ fault_at_message origins.now refusal }
 {
     TableFault::Refused(LineFault {
         reason: refusal.reason,
-        line: line_of_message(origins, refusal.concerns),
+        line: origin_of(origins, refusal.concerns).map_or(0, |origin| origin.line),
     })
 }
 
@@ -55,18 +54,9 @@ fn book_of(
 ) -> Result<TableBook, MakingFault>
     ensures { MatchResult result (BookOf periodic.now window.now) (NoBook periodic.now window.now) }
 {
-    let left = match PeriodicBook::new(heap, periodic) {
-        Ok(book) => book,
-        Err(fault) => return Err(fault),
-    };
-    let right = match WindowBook::new(heap, window) {
-        Ok(book) => book,
-        Err(fault) => return Err(fault),
-    };
-    match JointBook::new(left, right) {
-        Ok(book) => Ok(book),
-        Err(refused) => Err(MakingFault::Refused(refused.refusal)),
-    }
+    let left = PeriodicBook::new(heap, periodic)?;
+    let right = WindowBook::new(heap, window)?;
+    JointBook::new(left, right).map_err(|refused| MakingFault::Refused(refused.refusal))
 }
 
 // The plan of a table whose lines were accepted.
@@ -79,14 +69,13 @@ fn plan_of(heap: Global, table: Table) -> Result<Plan<TableBook>, TableFault>
         window,
         origins,
     } = table;
-    let book = match book_of(heap, periodic.as_slice(), window.as_slice()) {
-        Ok(book) => book,
-        Err(fault) => return Err(made_fault(origins.as_slice(), fault)),
-    };
-    match draft.into_plan(heap, book) {
-        Ok(plan) => Ok(plan),
-        Err(refused) => Err(made_fault(origins.as_slice(), refused.fault)),
-    }
+    let book = book_of(heap, periodic.as_slice(), window.as_slice()).map_err(|fault| made_fault(
+        origins.as_slice(),
+        fault,
+    ))?;
+    draft
+        .into_plan(heap, book)
+        .map_err(|refused| made_fault(origins.as_slice(), refused.fault))
 }
 
 // A line of the sheet.
@@ -127,10 +116,7 @@ pub fn run(heap: Global, text: &[u8]) -> Result<String, RunFault>
 {
     let table = read_table(heap, text)?;
     let plan = plan_of(heap, table)?;
-    match text_of(heap, plan.sheet()) {
-        Ok(text) => Ok(text),
-        Err(_) => Err(RunFault::Table(TableFault::Memory)),
-    }
+    Ok(text_of(heap, plan.sheet())?)
 }
 
 // What the sheet program prints: the sheet, or only the line that tells the fault.

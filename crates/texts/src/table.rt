@@ -123,13 +123,10 @@ fn after_mark(text: &[u8]) -> Result<&[u8], LineFault>
             line: 0,
         });
     }
-    match text.strip_prefix(b"FDT 0001\n") {
-        Some(rest) => Ok(rest),
-        None => Err(LineFault {
-            reason: Reason::WrongFirstLine,
-            line: 1,
-        }),
-    }
+    text.strip_prefix(b"FDT 0001\n").ok_or(LineFault {
+        reason: Reason::WrongFirstLine,
+        line: 1,
+    })
 }
 
 // The table of a text. Lines are taken from the top: the first that is refused is the fault.

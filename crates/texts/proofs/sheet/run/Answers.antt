@@ -12,11 +12,11 @@ returns-in_err-plan c =
       unplanned = c.in_err-plan.ensures;
     })))
 
-pub returns-in-Ok : goal.returns-in-Ok
-returns-in-Ok c = record {
+pub returns : goal.returns
+returns c = record {
   table = c.in_ok-table.table;
   plan = c.in_ok-plan.plan;
   read = c.in_ok-table.ensures;
   planned = c.in_ok-plan.ensures;
-  printed = c.in-Ok.ensures ∙ ap text_of_sheet c.sheet.ensures;
+  printed = c.in_ok-text_of.ensures ∙ ap text_of_sheet c.sheet.ensures;
 }
