@@ -3,3 +3,4 @@ pub mod Fields
 pub mod Unique
 pub mod OfForms
 pub mod MapErr
+pub mod Books

@@ -1,10 +1,10 @@
 use Rattle.std.proofs.Common.{ap, ◌∙◌, inr}
 use Rattle.std.proofs.lemmas.Result.{err_from_is_err_and}
 use Rattle.texts.specs.Sheets.{text_of_sheet}
-use Rattle.texts.proofs.sheet.run.Goals as goal
+use Rattle.texts.proofs.sheet.run_of.Goals as goal
 
 pub returns-in_err-plan : goal.returns-in_err-plan
-returns-in_err-plan c =
+returns-in_err-plan g c =
     let p = err_from_is_err_and c.from_residual-in_err-plan.result c.from_residual-in_err-plan.ensures.1 in
     rw (p.1, p.2) (inr (inr (record {
       table = c.in_ok-table.table;
@@ -13,7 +13,7 @@ returns-in_err-plan c =
     })))
 
 pub returns : goal.returns
-returns c = record {
+returns g c = record {
   table = c.in_ok-table.table;
   plan = c.in_ok-plan.plan;
   read = c.in_ok-table.ensures;
