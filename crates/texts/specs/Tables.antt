@@ -1,8 +1,7 @@
 -- A table text and its faults.
-use Rattle.std.specs.Prelude.{◌≡◌, ℕ, true, List, [], ◌∷◌, ◌++◌, vec_items}
+use Rattle.std.specs.Prelude.{◌≡◌, ℕ, List, [], ◌∷◌, ◌++◌, vec_items}
 use Rattle.fields.specs.Refusals.{Check}
-use Rattle.fields.specs.declared.refusal.Reason.TheVariants.{Malformed}
-use Rattle.plan.specs.Drafts.{Begun, node_checks, NodeAdded, message_checks, MessageAdded}
+use Rattle.plan.specs.Drafts.{Begun, NodeAdded, MessageAdded}
 use Rattle.plan.specs.declared.draft.Message.{Message}
 use Rattle.texts.specs.declared.fault.TableFault.{TableFault}
 use Rattle.texts.specs.Readers as readers
@@ -13,10 +12,7 @@ use Rattle.texts.specs.declared.table.Table.{Table}
 
 -- The checks of a line: those of the draft's call that it makes. A bus line comes once.
 abbrev pub checks_of : Table → Line → List Check
-checks_of t (line.Bus g s l q) = record { holds = true; reason = Malformed } ∷ []
-checks_of t (line.Node n a) = node_checks t.draft n a
-checks_of t (line.Periodic m p j) = message_checks t.draft m
-checks_of t (line.Window m n w) = message_checks t.draft m
+checks_of t l = readers.noting_checks t.draft l
 
 -- The table with one message more, of the line.
 pub record MessageRead (old new : Table) (m : Message) (n : ℕ) : Type 0 where

@@ -1,11 +1,14 @@
 // One line of a table: its kind by its letter, its turn, and its figures within their ranges.
 ghost use Rattle.std.specs.Prelude.{◌≡◌, ◌≤◌, true, false, ◌⊎◌, length, IfSome, IfNone, MatchOption, MatchResult, ◌≢◌};
+ghost use Rattle.std.specs.Option.{option_to_list};
 ghost use Rattle.fields.specs.Limits.{admitted};
-ghost use Rattle.texts.specs.Lines.{kind_by, next_phase, Figures, OutOf, LineRead, LineRefused, fields_of, message_fields, values_of_message, all_admitted, firsts};
+ghost use Rattle.texts.specs.Lines.{kind_by, next_phase, Figures, OutOf, LineRead, LineRefused, fields_of, message_fields, values_of_message, all_admitted, firsts, periodic_of_line, window_of_line};
 ghost use Rattle.texts.specs.declared.line.Kind.TheVariants as kind;
 
 use crate::fault::LineFault;
 use crate::form::{Form, form_of};
+use books::periodic::PeriodicMessage;
+use books::window::WindowMessage;
 use fields::limits::{Field, admits};
 use fields::refusal::Reason;
 use plan::draft::Message;
@@ -35,6 +38,36 @@ pub enum Line {
     Periodic(Message, u32, u32),
     // with the releases of a window and its length
     Window(Message, u16, u32),
+}
+
+impl Line {
+    // The message of a P line, as a book lists it.
+    pub fn periodic(&self) -> Option<PeriodicMessage>
+        ensures { option_to_list result ≡ periodic_of_line self.now }
+    {
+        match *self {
+            Line::Periodic(message, period, jitter) => Some(PeriodicMessage {
+                number: message.number,
+                period,
+                jitter,
+            }),
+            _ => None,
+        }
+    }
+
+    // The message of a W line, as a book lists it.
+    pub fn window(&self) -> Option<WindowMessage>
+        ensures { option_to_list result ≡ window_of_line self.now }
+    {
+        match *self {
+            Line::Window(message, releases, window) => Some(WindowMessage {
+                number: message.number,
+                releases,
+                window,
+            }),
+            _ => None,
+        }
+    }
 }
 
 // The kind of line that a letter and its count of numbers say.

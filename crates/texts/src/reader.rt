@@ -93,6 +93,7 @@ pub fn read<T: TableText>(heap: Global, text: &[u8]) -> Result<T, TableFault>
     let mut phase = step.next;
     rest = bus.rest;
     let mut number: u32 = 3;
+    // kept: as a `for` over (3..).zip(rest.split_inclusive(..)) in a generic function, antt refuses the check's own step
     while !rest.is_empty() {
         let cut = first_line(rest).ok_or(at_line(Reason::Malformed, number))?;
         let step = line_of(cut.line, phase, number)?;

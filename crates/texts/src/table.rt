@@ -23,6 +23,7 @@ pub struct Table {
     pub draft: Draft,
     pub periodic: Vec<PeriodicMessage>,
     pub window: Vec<WindowMessage>,
+    // kept: a line's definition appends its message here, so a map would have to say the order beside
     pub origins: Vec<Origin>,
 }
 
@@ -44,34 +45,21 @@ impl TableText for Table {
 
     fn add(&mut self, line: Line, number: u32) -> Result<(), TableFault> {
         note(&mut self.draft, line, number)?;
-        match line {
-            Line::Bus(_, _, _, _) => Ok(()),
-            Line::Node(_, _) => Ok(()),
-            Line::Periodic(message, period, jitter) => {
-                self.origins.push(Origin {
-                    message: message.number,
-                    line: number,
-                })?;
-                self.periodic.push(PeriodicMessage {
-                    number: message.number,
-                    period,
-                    jitter,
-                })?;
-                Ok(())
-            }
-            Line::Window(message, releases, window) => {
-                self.origins.push(Origin {
-                    message: message.number,
-                    line: number,
-                })?;
-                self.window.push(WindowMessage {
-                    number: message.number,
-                    releases,
-                    window,
-                })?;
-                Ok(())
-            }
+        if let Some(message) = line.periodic() {
+            self.origins.push(Origin {
+                message: message.number,
+                line: number,
+            })?;
+            self.periodic.push(message)?;
         }
+        if let Some(message) = line.window() {
+            self.origins.push(Origin {
+                message: message.number,
+                line: number,
+            })?;
+            self.window.push(message)?;
+        }
+        Ok(())
     }
 }
 
