@@ -1,5 +1,5 @@
 -- From the lines of a table to its sheet, and from a text to what is printed.
-use Rattle.std.specs.Prelude.{◌≡◌, ℕ, ◌+◌, ◌≤◌, ◌⊎◌, length, List, [], ◌∷◌, map, Option}
+use Rattle.std.specs.Prelude.{◌≡◌, ℕ, ◌+◌, ◌≤◌, ◌⊎◌, length, List, [], map, Option}
 use Rattle.std.specs.List.{range_with_len, flat_map}
 use Rattle.fields.specs.Limits.{highest}
 use Rattle.fields.specs.declared.limits.Field.TheVariants.{Message}
@@ -23,6 +23,7 @@ use Rattle.plan.specs.Sheets.{Sheet, FirstLate}
 use Rattle.plan.specs.declared.plan.Plan.{Plan}
 use Rattle.by_lines.specs.Held.{HasBus, entry_told, in_order, lines_of, DraftOf}
 use Rattle.by_lines.specs.Sheets.{line_of}
+use Rattle.texts.specs.Lines.{periodic_of_line, window_of_line}
 use Rattle.texts.specs.Sheets.{text_of_sheet, text_of_fault}
 use Rattle.by_lines.specs.Tables.{TableOf, FaultOf, AllAccepted, longest_text}
 use Rattle.by_lines.specs.declared.table.Table.{Table}
@@ -32,22 +33,8 @@ use Rattle.texts.specs.declared.fault.TableFault.TheVariants as fault
 use Rattle.texts.specs.declared.fault.RunFault.{RunFault}
 use Rattle.texts.specs.declared.fault.RunFault.TheVariants as run
 use Rattle.texts.specs.declared.line.Line.{Line}
-use Rattle.texts.specs.declared.line.Line.TheVariants as line
 
--- The message of a P line and of a W line, as a book lists it.
-abbrev pub periodic_of_line : Line → List PeriodicMessage
-periodic_of_line (line.Bus g s l q) = []
-periodic_of_line (line.Node n a) = []
-periodic_of_line (line.Periodic m t j) = record { number = m.number; period = t; jitter = j } ∷ []
-periodic_of_line (line.Window m n w) = []
-
-abbrev pub window_of_line : Line → List WindowMessage
-window_of_line (line.Bus g s l q) = []
-window_of_line (line.Node n a) = []
-window_of_line (line.Periodic m t j) = []
-window_of_line (line.Window m n w) = record { number = m.number; releases = n; window = w } ∷ []
-
--- The same of all lines, in their order.
+-- The messages of all P lines and of all W lines, in their order.
 abbrev pub periodic_of : List Line → List PeriodicMessage
 periodic_of ls = flat_map periodic_of_line ls
 

@@ -1,8 +1,8 @@
 // The sheet of a table text, as text.
 ghost use Rattle.std.specs.Prelude.{◌≡◌, ◌≤◌, length, IfOk, string_bytes, MatchResult};
 ghost use Rattle.std.specs.List.{position};
-ghost use Rattle.std.specs.Option.{option_to_list, unwrap_or};
-ghost use Rattle.by_lines.specs.Plans.{periodic_of_line, window_of_line, periodic_of, window_of, SheetPrinted, RunRefused, Printed, Planned, Unplanned};
+ghost use Rattle.std.specs.Option.{unwrap_or};
+ghost use Rattle.by_lines.specs.Plans.{periodic_of, window_of, SheetPrinted, RunRefused, Printed, Planned, Unplanned};
 ghost use Rattle.by_lines.specs.Sheets.{gives, line_of, fault_of_making};
 ghost use Rattle.by_lines.specs.Tables.{longest_text};
 
@@ -21,10 +21,9 @@ fn gives_message(line: &Line, number: u32) -> bool
     ensures { result ≡ gives number line.now }
 {
     match line {
-        Line::Bus(_, _, _, _) => false,
-        Line::Node(_, _) => false,
         Line::Periodic(message, _, _) => u32::from(message.number) == number,
         Line::Window(message, _, _) => u32::from(message.number) == number,
+        _ => false,
     }
 }
 
@@ -56,48 +55,16 @@ fn made_fault(lines: &[Line], fault: MakingFault) -> TableFault
     }
 }
 
-// The message of a P line.
-fn periodic_in(line: &Line) -> Option<PeriodicMessage>
-    ensures { option_to_list result ≡ periodic_of_line line.now }
-{
-    match *line {
-        Line::Bus(_, _, _, _) => None,
-        Line::Node(_, _) => None,
-        Line::Periodic(message, period, jitter) => Some(PeriodicMessage {
-            number: message.number,
-            period,
-            jitter,
-        }),
-        Line::Window(_, _, _) => None,
-    }
-}
-
-// The message of a W line.
-fn window_in(line: &Line) -> Option<WindowMessage>
-    ensures { option_to_list result ≡ window_of_line line.now }
-{
-    match *line {
-        Line::Bus(_, _, _, _) => None,
-        Line::Node(_, _) => None,
-        Line::Periodic(_, _, _) => None,
-        Line::Window(message, releases, window) => Some(WindowMessage {
-            number: message.number,
-            releases,
-            window,
-        }),
-    }
-}
-
 fn periodic_messages(heap: Global, lines: &[Line]) -> Result<Vec<PeriodicMessage>, AllocError>
     ensures { IfOk result (λ v. v.items ≡ periodic_of lines.now) }
 {
-    lines.iter().flat_map(periodic_in).collect(heap)
+    lines.iter().flat_map(Line::periodic).collect(heap)
 }
 
 fn window_messages(heap: Global, lines: &[Line]) -> Result<Vec<WindowMessage>, AllocError>
     ensures { IfOk result (λ v. v.items ≡ window_of lines.now) }
 {
-    lines.iter().flat_map(window_in).collect(heap)
+    lines.iter().flat_map(Line::window).collect(heap)
 }
 
 impl SheetText for Table {
