@@ -3,7 +3,8 @@ use Rattle.std.proofs.Common.{◌≡◌, ℕ, suc, ◌<◌, true, List, [], ◌�
 use Rattle.std.specs.List.{AllByRecursion}
 use Rattle.std.proofs.ByRecursion.{All-get_or, All-weaker}
 use Rattle.std.proofs.lemmas.Bool.Decides.{nat_tests}
-use Rattle.texts.specs.Forms.{is_ascii_digit, decimal, fields, cut}
+use Rattle.std.specs.Char.{is_ascii_digit}
+use Rattle.texts.specs.Forms.{decimal, fields, cut}
 use Rattle.texts.specs.Lines.{letter_of, values_of, line_text}
 use Rattle.by_lines.specs.Tables.{lines_text, table_text, OneLine}
 use Rattle.texts.specs.declared.line.Line.{Line}

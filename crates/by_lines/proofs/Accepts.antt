@@ -7,7 +7,8 @@ use Rattle.fields.specs.declared.refusal.Reason.TheVariants.{Malformed, OutOfRan
 use Rattle.plan.specs.declared.draft.Message.{Message}
 use Rattle.texts.specs.Lines.{kind_of, next_phase, fits, line_text, LineRead, LineRefused}
 use Rattle.by_lines.specs.Tables.{mark, lines_text, table_text, messages_of, start_of, phase_of, phase_after, in_turn, table_rules, line_rules, AllAccepted, longest_text, OneLine, NextFault, unformed, refused, FaultOf, at_line}
-use Rattle.by_lines.specs.Held.{RefusedAt, TableFaultOf}
+use Rattle.texts.specs.Readers.{RefusedAt}
+use Rattle.by_lines.specs.Held.{TableFaultOf}
 use Rattle.texts.specs.declared.fault.TableFault.{TableFault}
 use Rattle.texts.specs.declared.fault.TableFault.TheVariants as fault
 use Rattle.texts.specs.declared.fault.LineFault.{LineFault}

@@ -1,12 +1,10 @@
 -- The draft of a table's lines, line by line.
-use Rattle.std.proofs.Common.{◌≡◌, ℕ, zero, suc, ◌+◌, ◌-◌, ◌*◌, ◌<◌, ◌≤◌, Bool, true, false, cond, not, ◌&&◌, eqb, ltb, leb, List, [], ◌∷◌, ◌++◌, map, length, get_or, set, replicate, is_some, Some, None, Ok, Err, vec_items, Option, Result, unwrap_or, sym, refl, ap, ◌∙◌, ⊎_elim, arith, MatchResult}
+use Rattle.std.proofs.Common.{◌≡◌, ℕ, zero, suc, ◌+◌, ◌-◌, ◌*◌, ◌<◌, ◌≤◌, Bool, true, false, cond, not, ◌&&◌, eqb, ltb, leb, List, [], ◌∷◌, ◌++◌, map, length, get_or, set, replicate, is_some, Some, None, vec_items, Option, unwrap_or, sym, refl, ap, ◌∙◌, ⊎_elim, arith}
 use mathlib.Core.Path.{fun_ext}
 use Rattle.std.proofs.lemmas.List.{map_push, get_or-set_same, get_or-set_other}
 use Rattle.std.proofs.lemmas.Bool.{and_parts, leb-true, cases_eq, eq-eqb, ne_eqb, both_ways}
 use Rattle.fields.specs.Limits.{admitted}
-use Rattle.fields.specs.Refusals.{first_reason, Verdict}
-use Rattle.fields.specs.declared.refusal.Place.TheVariants as place
-use Rattle.fields.specs.declared.refusal.Refusal.{Refusal}
+use Rattle.fields.specs.Refusals.{first_reason}
 use Rattle.fields.specs.declared.limits.Field.TheVariants as field
 use Rattle.fields.specs.declared.refusal.Reason.{Reason}
 use Rattle.fields.specs.declared.refusal.Reason.TheVariants.{OutOfRange, NumberUsed, NodeUnknown, SegmentTooLong, FrameOfAnotherNode, PriorityUsed, SizeTooLong, FrameAfterLastStart}
@@ -18,7 +16,8 @@ use Rattle.plan.specs.Drafts.{Begun, bus_checks, node_checks, NodeAdded, message
 use Rattle.plan.specs.declared.draft.Draft.{Draft}
 use Rattle.plan.specs.declared.draft.Message.{Message}
 use Rattle.texts.specs.Lines.{kind_of, next_phase, fits}
-use Rattle.by_lines.specs.Held.{Told, told_of, told_up_to, put_in, put_all, in_order, entry_told, HasBus, DraftOf, RefusedFor}
+use Rattle.texts.specs.Readers.{bus_line_checks, BusDrafted, noting_checks, Noted}
+use Rattle.by_lines.specs.Held.{Told, told_of, told_up_to, put_in, put_all, in_order, entry_told, HasBus, DraftOf}
 use Rattle.by_lines.specs.Tables.{messages_of, start_of, minislots_of, phase_of, in_turn, same_number, other_node, same_priority, message_rules, table_rules}
 use Rattle.texts.specs.declared.line.Line.{Line}
 use Rattle.texts.specs.declared.line.Line.TheVariants as line
@@ -40,10 +39,10 @@ module _ (m : Message) (r : Bool) where
       and_mono (admitted field.Message m.number) _ _ (and_mono (admitted field.Frame m.frame) _ _ (and_mono (admitted field.Node m.node) _ _
       (and_mono (admitted field.Priority m.priority) _ _ (and_mono (admitted field.Size m.size) _ _ (and_front (admitted field.Deadline m.deadline) r)))))
 
-pub in_range_periodic : (m : Message) (t j : ℕ) → fits (line.Periodic m t j) ≡ true → in_range m ≡ true
+in_range_periodic : (m : Message) (t j : ℕ) → fits (line.Periodic m t j) ≡ true → in_range m ≡ true
 in_range_periodic m t j h = in_range_front m (admitted field.Period t && (admitted field.Jitter j && true)) h
 
-pub in_range_window : (m : Message) (n w : ℕ) → fits (line.Window m n w) ≡ true → in_range m ≡ true
+in_range_window : (m : Message) (n w : ℕ) → fits (line.Window m n w) ≡ true → in_range m ≡ true
 in_range_window m n w h = in_range_front m (admitted field.Releases n && (admitted field.Window w && true)) h
 
 -- The checks of a message in range, by what they look at.
@@ -112,7 +111,7 @@ else_none None = refl
 else_none (Some x) = refl
 
 -- The draft with one node more holds one N line more.
-pub node_held : (ls : List Line) (old new : Draft) (n a : ℕ) → DraftOf ls old → fits (line.Node n a) ≡ true → in_turn ls (line.Node n a) ≡ true
+node_held : (ls : List Line) (old new : Draft) (n a : ℕ) → DraftOf ls old → fits (line.Node n a) ≡ true → in_turn ls (line.Node n a) ≡ true
     → first_reason (table_rules ls (line.Node n a)) ≡ None → NodeAdded old new n a → DraftOf (ls ++ line.Node n a ∷ []) new
 node_held ls old new n a held f turn free added =
     let within_range = and_parts (admitted field.Node n) (admitted field.LastStart a && true) f in
@@ -145,18 +144,18 @@ told_entry m start e h = λ i. record {
 }
 
 -- A line that gives a message, and no node.
-pub record Gives (l : Line) (m : Message) : Type 0 where
+record Gives (l : Line) (m : Message) : Type 0 where
   pub message : messages_of (l ∷ []) ≡ m ∷ []
   pub no_node : (n : ℕ) → start_of (l ∷ []) n ≡ None
 
-pub gives_periodic : (m : Message) (t j : ℕ) → Gives (line.Periodic m t j) m
+gives_periodic : (m : Message) (t j : ℕ) → Gives (line.Periodic m t j) m
 gives_periodic m t j = record { message = refl; no_node = λ n. refl }
 
-pub gives_window : (m : Message) (n w : ℕ) → Gives (line.Window m n w) m
+gives_window : (m : Message) (n w : ℕ) → Gives (line.Window m n w) m
 gives_window m n w = record { message = refl; no_node = λ k. refl }
 
 -- The draft with one message more holds its line more.
-pub message_held : (ls : List Line) (old new : Draft) (l : Line) (m : Message) → DraftOf ls old → Gives l m → MessageAdded old new m → DraftOf (ls ++ l ∷ []) new
+message_held : (ls : List Line) (old new : Draft) (l : Line) (m : Message) → DraftOf ls old → Gives l m → MessageAdded old new m → DraftOf (ls ++ l ∷ []) new
 message_held ls old new l m held gives added =
     let starts : (n : ℕ) → start_of (ls ++ l ∷ []) n ≡ start_of ls n = λ n. start_more ls (l ∷ []) n ∙ ap (or_else (start_of ls n)) (gives.no_node n) ∙ else_none (start_of ls n) in
     let told : Told = record { message = m; latest = unwrap_or (start_of ls m.node) 0 } in
@@ -181,29 +180,52 @@ get_d_none (suc k) zero = refl
 get_d_none (suc k) (suc n) = get_d_none k n
 
 -- A new draft holds the bus line.
-pub bus_held : (d : Draft) (g s l q : ℕ) → Begun d g s l q → DraftOf (line.Bus g s l q ∷ []) d
+bus_held : (d : Draft) (g s l q : ℕ) → Begun d g s l q → DraftOf (line.Bus g s l q ∷ []) d
 bus_held d g s l q b = record {
   bus = b.bus;
   nodes = λ n. ap (λ xs. get_or xs n None) b.nodes ∙ get_d_none 65 n;
   entries = ap (map entry_told) b.entries;
 }
 
-pub bus_same : (g s l q : ℕ) → fits (line.Bus g s l q) ≡ true → first_reason (bus_checks g s l q) ≡ first_reason (table_rules [] (line.Bus g s l q))
+bus_same : (g s l q : ℕ) → fits (line.Bus g s l q) ≡ true → first_reason (bus_checks g s l q) ≡ first_reason (table_rules [] (line.Bus g s l q))
 bus_same g s l q f =
     let p = and_mono (admitted field.Cycle g) _ _ (and_mono (admitted field.Offset s) _ _ (and_mono (admitted field.Minislot l) _ _ (and_front (admitted field.Minislots q) true))) f in
     ap (λ b. cond (not b) (Some OutOfRange) (first_reason (record { holds = ltb g (s + q * l); reason = SegmentTooLong } ∷ []))) p
 
--- What the draft answers to a line is what the rules say of it.
-pub noted_node : (ls : List Line) (old new : Draft) (n a : ℕ) (r : Result Unit Refusal) → DraftOf ls old → fits (line.Node n a) ≡ true
-    → in_turn ls (line.Node n a) ≡ true → Verdict (node_checks old n a) place.Draft n (λ _. NodeAdded old new n a) r
-    → MatchResult r (λ _. (first_reason (table_rules ls (line.Node n a)) ≡ None) × DraftOf (ls ++ line.Node n a ∷ []) new) (RefusedFor (table_rules ls (line.Node n a)))
-noted_node ls old new n a (Ok u) held f turn v =
-    let free = sym (node_same ls old held n a f) ∙ v.0 in (free, node_held ls old new n a held f turn free v.1)
-noted_node ls old new n a (Err e) held f turn v = sym (node_same ls old held n a f) ∙ v.0
+-- A bus line is in turn before all others only.
+no_bus : (ms : List Message) (g s l q : ℕ) → is_some (next_phase (phase_of ms) (kind_of (line.Bus g s l q))) ≡ true → ⊥
+no_bus [] g s l q h = both_ways false refl h
+no_bus (m ∷ ms) g s l q h = both_ways false refl h
 
-pub noted_message : (ls : List Line) (old new : Draft) (l : Line) (m : Message) (r : Result Unit Refusal) → DraftOf ls old → in_range m ≡ true → Gives l m
-    → table_rules ls l ≡ message_rules ls m → Verdict (message_checks old m) place.Draft m.number (λ _. MessageAdded old new m) r
-    → MatchResult r (λ _. (first_reason (table_rules ls l) ≡ None) × DraftOf (ls ++ l ∷ []) new) (RefusedFor (table_rules ls l))
-noted_message ls old new l m (Ok u) held f gives is v =
-    (ap first_reason is ∙ sym (message_same ls old held m f (bus_minislots ls old.bus held.bus)) ∙ v.0, message_held ls old new l m held gives v.1)
-noted_message ls old new l m (Err e) held f gives is v = ap first_reason is ∙ sym (message_same ls old held m f (bus_minislots ls old.bus held.bus)) ∙ v.0
+bus_turn : (ls : List Line) (b : Bus) (g s l q : ℕ) → HasBus ls b → in_turn ls (line.Bus g s l q) ≡ true → ⊥
+bus_turn [] b g s l q h turn = h
+bus_turn (k ∷ ks) b g s l q h turn = no_bus (messages_of (k ∷ ks)) g s l q turn
+
+-- What the draft checks of a line is what the rules say of it.
+pub said : (ls : List Line) (d : Draft) (l : Line) → DraftOf ls d → in_turn ls l ≡ true → fits l ≡ true
+    → first_reason (noting_checks d l) ≡ first_reason (table_rules ls l)
+said ls d (line.Bus g s l q) held turn f = absurd (bus_turn ls d.bus g s l q held.bus turn)
+said ls d (line.Node n a) held turn f = node_same ls d held n a f
+said ls d (line.Periodic m t j) held turn f = message_same ls d held m (in_range_periodic m t j f) (bus_minislots ls d.bus held.bus)
+said ls d (line.Window m n w) held turn f = message_same ls d held m (in_range_window m n w f) (bus_minislots ls d.bus held.bus)
+
+-- The draft with what a line more says holds one line more.
+pub held_after : (ls : List Line) (old new : Draft) (l : Line) → DraftOf ls old → in_turn ls l ≡ true → fits l ≡ true
+    → first_reason (table_rules ls l) ≡ None → Noted old new l → DraftOf (ls ++ l ∷ []) new
+held_after ls old new (line.Bus g s l q) held turn f free noted = absurd noted
+held_after ls old new (line.Node n a) held turn f free noted = node_held ls old new n a held f turn free noted
+held_after ls old new (line.Periodic m t j) held turn f free noted = message_held ls old new (line.Periodic m t j) m held (gives_periodic m t j) noted
+held_after ls old new (line.Window m n w) held turn f free noted = message_held ls old new (line.Window m n w) m held (gives_window m n w) noted
+
+-- The same of the bus line, which comes first.
+pub bus_said : (l : Line) → in_turn [] l ≡ true → fits l ≡ true → first_reason (bus_line_checks l) ≡ first_reason (table_rules [] l)
+bus_said (line.Bus g s l q) turn f = bus_same g s l q f
+bus_said (line.Node n a) turn f = absurd (both_ways false refl turn)
+bus_said (line.Periodic m t j) turn f = absurd (both_ways false refl turn)
+bus_said (line.Window m n w) turn f = absurd (both_ways false refl turn)
+
+pub bus_drafted : (l : Line) (d : Draft) → BusDrafted l d → DraftOf (l ∷ []) d
+bus_drafted (line.Bus g s l q) d b = bus_held d g s l q b
+bus_drafted (line.Node n a) d b = absurd b
+bus_drafted (line.Periodic m t j) d b = absurd b
+bus_drafted (line.Window m n w) d b = absurd b

@@ -1,9 +1,9 @@
 -- The messages of accepted lines are listed without fault: each is in range, and has a number of its own.
 use Rattle.std.proofs.Common.{◌≡◌, ℕ, zero, suc, ◌+◌, ◌<◌, ◌≤◌, Bool, true, false, cond, not, ◌&&◌, ◌||◌, eqb, List, [], ◌∷◌, ◌++◌, map, length, get_or, take, is_some, Some, None, vec_items, Option, unwrap_or, sym, refl, ap, ◌∙◌, subst, ⊎_elim, append_assoc, le_of_suc-le-suc, not-suc-le-zero, arith}
-use Rattle.std.specs.List.{flat_map, AllByRecursion}
+use Rattle.std.specs.List.{AllByRecursion}
 use Rattle.std.specs.Option.{option_map}
 use Rattle.std.proofs.lemmas.List.FromFn.{get_or-map-range_with_len, fill_by_all}
-use Rattle.std.proofs.lemmas.List.{take_more, flat_map_more, append-nil, length-map}
+use Rattle.std.proofs.lemmas.List.{append-nil, length-map}
 use Rattle.std.proofs.ByRecursion.{All-get_or}
 use Rattle.std.proofs.lemmas.Bool.{and_parts, or_cases, or_from, or_left, or_right, cases_Bool, eqb-true, eq-eqb, both_ways, cond-true, cond-false}
 use Rattle.std.proofs.lemmas.Bool.Decides.{nat_tests}
@@ -34,12 +34,6 @@ use Rattle.texts.specs.declared.line.Line.{Line}
 use Rattle.texts.specs.declared.line.Line.TheVariants as line
 use Rattle.by_lines.proofs.Accepts.{messages_more}
 use Rattle.by_lines.proofs.Orders.{or_assoc, or_swap, all_put_all}
-
--- One line more that was looked through.
-pub collect_step : {X : Type 0} (f : Line → List X) (ls : List Line) (i : ℕ) (d : Line) (old new : List X) → i < length ls
-    → old ≡ flat_map f (take i ls) → new ≡ old ++ f (get_or ls i d) → new ≡ flat_map f (take (i + 1) ls)
-collect_step f ls i d old new h so_far one =
-    one ∙ ap (λ o. o ++ f (get_or ls i d)) so_far ∙ flat_map_more f [] (take i ls) (get_or ls i d) ∙ sym (ap (flat_map f) (take_more ls i d h))
 
 -- How often a number is used.
 abbrev uses : {M : Type 0} → (M → ℕ) → List M → ℕ → ℕ

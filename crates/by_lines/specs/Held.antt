@@ -1,14 +1,14 @@
 -- What a read table holds: its lines, and the draft that they make.
-use Rattle.std.specs.Prelude.{◌≡◌, ℕ, Bool, cond, ◌&&◌, ◌||◌, List, [], ◌∷◌, map, Some, vec_items, ◌==◌, nat_le, nat_lt}
+use Rattle.std.specs.Prelude.{◌≡◌, ℕ, Bool, cond, ◌&&◌, ◌||◌, List, [], ◌∷◌, ◌++◌, map, None, vec_items, ◌==◌, nat_le, nat_lt}
 use Rattle.std.specs.Option.{unwrap_or}
 use Rattle.fields.specs.Refusals.{Check, first_reason}
-use Rattle.fields.specs.declared.refusal.Refusal.{Refusal}
 use Rattle.delay.specs.declared.bus.Bus.{Bus}
 use Rattle.delay.specs.declared.entry.Entry.{Entry}
 use Rattle.plan.specs.Drafts.{IsBus, latest_start_of, entries_of}
 use Rattle.plan.specs.declared.draft.Draft.{Draft}
 use Rattle.plan.specs.declared.draft.Message.{Message}
 use Rattle.by_lines.specs.Tables.{messages_of, start_of, FaultOf}
+use Rattle.texts.specs.Readers.{bus_line_checks, BusDrafted, noting_checks, Noted}
 use Rattle.texts.specs.declared.fault.TableFault.{TableFault}
 use Rattle.texts.specs.declared.fault.TableFault.TheVariants as fault
 use Rattle.texts.specs.declared.line.Line.{Line}
@@ -65,15 +65,6 @@ pub record DraftOf (ls : List Line) (d : Draft) : Type 0 where
   pub nodes : (n : ℕ) → latest_start_of d n ≡ start_of ls n
   pub entries : map entry_told (entries_of d) ≡ in_order ls
 
--- Refused for the first of these conditions that holds.
-abbrev pub RefusedFor : List Check → Refusal → Type 0
-RefusedFor cs e = first_reason cs ≡ Some e.reason
-
--- The same at the line of a number, or no memory was left.
-abbrev pub RefusedAt : List Check → ℕ → TableFault → Type 0
-RefusedAt cs n (fault.Refused f) = (f.line ≡ n) × (first_reason cs ≡ Some f.reason)
-RefusedAt cs n fault.Memory = Unit {0}
-
 -- The first fault of a text, or no memory was left.
 abbrev pub TableFaultOf : List ℕ → TableFault → Type 0
 TableFaultOf text (fault.Refused f) = FaultOf text f.reason f.line
@@ -82,3 +73,14 @@ TableFaultOf text fault.Memory = Unit {0}
 -- The lines of a read table.
 abbrev pub lines_of : Table → List Line
 lines_of t = vec_items t.lines
+
+-- A table of the bus line, and one with one line more: the draft passed its checks, and the line is kept.
+abbrev pub Begins : Line → Table → Type 0
+Begins l t = (first_reason (bus_line_checks l) ≡ None) × BusDrafted l t.draft × (lines_of t ≡ l ∷ [])
+
+abbrev pub Adds : Table → Table → Line → ℕ → Type 0
+Adds old new l n = (first_reason (noting_checks old.draft l) ≡ None) × Noted old.draft new.draft l × (lines_of new ≡ lines_of old ++ l ∷ [])
+
+-- What a line more is checked for: what its draft is asked.
+abbrev pub checks_of : Table → Line → List Check
+checks_of t l = noting_checks t.draft l

@@ -1,5 +1,5 @@
 -- From the lines of a table to its sheet, and from a text to what is printed.
-use Rattle.std.specs.Prelude.{◌≡◌, ℕ, ◌+◌, ◌⊎◌, List, [], ◌∷◌, map, Option}
+use Rattle.std.specs.Prelude.{◌≡◌, ℕ, ◌+◌, ◌≤◌, ◌⊎◌, length, List, [], map, Option}
 use Rattle.std.specs.List.{range_with_len, flat_map}
 use Rattle.fields.specs.Limits.{highest}
 use Rattle.fields.specs.declared.limits.Field.TheVariants.{Message}
@@ -18,33 +18,23 @@ use Rattle.books.specs.declared.window.WindowMessage.{WindowMessage}
 use Rattle.delay.specs.declared.bus.Bus.{Bus}
 use Rattle.delay.specs.declared.entry.Entry.{Entry}
 use Rattle.delay.specs.declared.entry.Row.{Row}
+use Rattle.plan.specs.Plans.{rows_of}
 use Rattle.plan.specs.Sheets.{Sheet, FirstLate}
-use Rattle.by_lines.specs.Held.{HasBus, entry_told, in_order}
+use Rattle.plan.specs.declared.plan.Plan.{Plan}
+use Rattle.by_lines.specs.Held.{HasBus, entry_told, in_order, lines_of, DraftOf}
 use Rattle.by_lines.specs.Sheets.{line_of}
+use Rattle.texts.specs.Lines.{periodic_of_line, window_of_line}
 use Rattle.texts.specs.Sheets.{text_of_sheet, text_of_fault}
-use Rattle.by_lines.specs.Tables.{TableOf, FaultOf}
+use Rattle.by_lines.specs.Tables.{TableOf, FaultOf, AllAccepted, longest_text}
+use Rattle.by_lines.specs.declared.table.Table.{Table}
 use Rattle.texts.specs.declared.fault.LineFault.{LineFault}
 use Rattle.texts.specs.declared.fault.TableFault.{TableFault}
 use Rattle.texts.specs.declared.fault.TableFault.TheVariants as fault
 use Rattle.texts.specs.declared.fault.RunFault.{RunFault}
 use Rattle.texts.specs.declared.fault.RunFault.TheVariants as run
 use Rattle.texts.specs.declared.line.Line.{Line}
-use Rattle.texts.specs.declared.line.Line.TheVariants as line
 
--- The message of a P line and of a W line, as a book lists it.
-abbrev pub periodic_of_line : Line → List PeriodicMessage
-periodic_of_line (line.Bus g s l q) = []
-periodic_of_line (line.Node n a) = []
-periodic_of_line (line.Periodic m t j) = record { number = m.number; period = t; jitter = j } ∷ []
-periodic_of_line (line.Window m n w) = []
-
-abbrev pub window_of_line : Line → List WindowMessage
-window_of_line (line.Bus g s l q) = []
-window_of_line (line.Node n a) = []
-window_of_line (line.Periodic m t j) = []
-window_of_line (line.Window m n w) = record { number = m.number; releases = n; window = w } ∷ []
-
--- The same of all lines, in their order.
+-- The messages of all P lines and of all W lines, in their order.
 abbrev pub periodic_of : List Line → List PeriodicMessage
 periodic_of ls = flat_map periodic_of_line ls
 
@@ -121,3 +111,16 @@ RunRefused text (run.Table e) = TableRefused text e
 -- What is printed of a text: its sheet, or only the line that tells its fault.
 abbrev pub Printed : List ℕ → List ℕ → Type 0
 Printed text bytes = SheetPrinted text bytes ⊎ ((f : LineFault) × NoSheetOf text f × (bytes ≡ text_of_fault f))
+
+-- The lines of a table are accepted, its draft holds them, and they are no more than a text has.
+pub record Accepted (t : Table) : Type 0 where
+  pub accepted : AllAccepted [] (lines_of t)
+  pub held : DraftOf (lines_of t) t.draft
+  pub few : length (lines_of t) ≤ longest_text
+
+-- What is made of such a table: the plan of its lines, or why they have none.
+abbrev pub Planned : Table → Plan TableBook → Type 0
+Planned t p = Accepted t → SheetOf (lines_of t) (rows_of p)
+
+abbrev pub Unplanned : Table → TableFault → Type 0
+Unplanned t e = Accepted t → PlanRefused (lines_of t) e

@@ -1,155 +1,89 @@
 // The sheet of a table text, as text.
-ghost use Rattle.std.specs.Prelude.{◌≡◌, ◌≤◌, [], length, IfOk, string_bytes, MatchResult};
-ghost use Rattle.std.specs.Option.{option_to_list};
-ghost use Rattle.plan.specs.Plans.{rows_of};
-ghost use Rattle.by_lines.specs.Held.{lines_of, DraftOf};
-ghost use Rattle.by_lines.specs.Plans.{periodic_of_line, window_of_line, periodic_of, window_of, book_state, book_of_lines, SheetOf, PlanRefused, SheetPrinted, RunRefused, Printed};
-ghost use Rattle.by_lines.specs.Sheets.{gives, line_of};
-ghost use Rattle.texts.specs.Sheets.{text_of_row, text_of_sheet, text_of_fault};
-ghost use Rattle.by_lines.specs.Tables.{AllAccepted, longest_text};
+ghost use Rattle.std.specs.Prelude.{◌≡◌, ◌≤◌, length, IfOk, string_bytes, MatchResult};
+ghost use Rattle.std.specs.List.{position};
+ghost use Rattle.std.specs.Option.{unwrap_or};
+ghost use Rattle.by_lines.specs.Plans.{periodic_of, window_of, SheetPrinted, RunRefused, Printed, Planned, Unplanned};
+ghost use Rattle.by_lines.specs.Sheets.{gives, line_of, fault_of_making};
+ghost use Rattle.by_lines.specs.Tables.{longest_text};
 
-use crate::table::{Table, read_table};
-use books::joint::JointBook;
-use books::periodic::{PeriodicBook, PeriodicMessage};
-use books::window::{WindowBook, WindowMessage};
+use crate::table::Table;
+use books::periodic::PeriodicMessage;
+use books::window::WindowMessage;
 use fields::refusal::MakingFault;
 use plan::plan::Plan;
 use std::alloc::{AllocError, Global};
 use texts::fault::{LineFault, RunFault, TableFault};
 use texts::line::Line;
-use texts::sheet::{fault_text, text_of};
-
-// The book of a table: its P lines are periodic, its W lines have windows.
-type TableBook = JointBook<PeriodicBook, WindowBook>;
+use texts::sheet::{SheetText, TableBook, book_of, run_of, sheet_of};
 
 // Whether the line gives the message of that number.
 fn gives_message(line: &Line, number: u32) -> bool
     ensures { result ≡ gives number line.now }
 {
     match line {
-        Line::Bus(_, _, _, _) => false,
-        Line::Node(_, _) => false,
         Line::Periodic(message, _, _) => u32::from(message.number) == number,
         Line::Window(message, _, _) => u32::from(message.number) == number,
+        _ => false,
     }
 }
 
-// The number of the line that gives a message; 0 where the table has no such message.
-fn line_of_message(lines: &[Line], message: u32) -> u32
-    requires { length lines.now ≤ longest_text }
-    ensures { result ≡ line_of lines.now message }
+// The place of the line that gives a message.
+fn place_of(lines: &[Line], message: u32) -> Option<usize>
+    ensures { result ≡ position (gives message) lines.now }
 {
-    let mut number: u32 = 2;
-    for line in lines {
-        if gives_message(line, message) {
-            return number;
-        }
-        number += 1;
-    }
-    0
+    lines.iter().position(|line| gives_message(line, message))
 }
 
-// The message of a P line.
-fn periodic_in(line: &Line) -> Option<PeriodicMessage>
-    ensures { option_to_list result ≡ periodic_of_line line.now }
+// The number of the line that gives a message. The mark is line 1.
+fn line_of_message(lines: &[Line], message: u32) -> Option<u32>
+    ensures { length lines.now ≤ longest_text → unwrap_or result 0 ≡ line_of lines.now message }
 {
-    match *line {
-        Line::Bus(_, _, _, _) => None,
-        Line::Node(_, _) => None,
-        Line::Periodic(message, period, jitter) => Some(PeriodicMessage {
-            number: message.number,
-            period,
-            jitter,
+    let place = place_of(lines, message)?;
+    u32::try_from(place.saturating_add(2)).ok()
+}
+
+// A plan's fault, at the line of the message that it concerns.
+fn made_fault(lines: &[Line], fault: MakingFault) -> TableFault
+    ensures { length lines.now ≤ longest_text → result ≡ fault_of_making lines.now fault }
+{
+    match fault {
+        MakingFault::Refused(refusal) => TableFault::Refused(LineFault {
+            reason: refusal.reason,
+            line: line_of_message(lines, refusal.concerns).unwrap_or(0),
         }),
-        Line::Window(_, _, _) => None,
-    }
-}
-
-// The message of a W line.
-fn window_in(line: &Line) -> Option<WindowMessage>
-    ensures { option_to_list result ≡ window_of_line line.now }
-{
-    match *line {
-        Line::Bus(_, _, _, _) => None,
-        Line::Node(_, _) => None,
-        Line::Periodic(_, _, _) => None,
-        Line::Window(message, releases, window) => Some(WindowMessage {
-            number: message.number,
-            releases,
-            window,
-        }),
+        MakingFault::Memory => TableFault::Memory,
     }
 }
 
 fn periodic_messages(heap: Global, lines: &[Line]) -> Result<Vec<PeriodicMessage>, AllocError>
     ensures { IfOk result (λ v. v.items ≡ periodic_of lines.now) }
 {
-    let mut messages = Vec::new(heap);
-    for line in lines {
-        if let Some(message) = periodic_in(line) {
-            messages.push(message)?;
-        }
-    }
-    Ok(messages)
+    lines.iter().flat_map(Line::periodic).collect(heap)
 }
 
 fn window_messages(heap: Global, lines: &[Line]) -> Result<Vec<WindowMessage>, AllocError>
     ensures { IfOk result (λ v. v.items ≡ window_of lines.now) }
 {
-    let mut messages = Vec::new(heap);
-    for line in lines {
-        if let Some(message) = window_in(line) {
-            messages.push(message)?;
-        }
-    }
-    Ok(messages)
+    lines.iter().flat_map(Line::window).collect(heap)
 }
 
-// The book of a table's lines. It is never refused: each message is in range, and has a number of its own.
-fn book_of(heap: Global, lines: &[Line]) -> Result<TableBook, AllocError>
-    requires { AllAccepted [] lines.now }
-    ensures { IfOk result (λ b. book_state b ≡ book_of_lines lines.now) }
-{
-    let periodic = periodic_messages(heap, lines)?;
-    let left = match PeriodicBook::new(heap, periodic.as_slice()) {
-        Ok(book) => book,
-        Err(fault) => match fault {
-            MakingFault::Memory => return Err(AllocError),
-            MakingFault::Refused(_) => unreachable(),
-        },
-    };
-    let window = window_messages(heap, lines)?;
-    let right = match WindowBook::new(heap, window.as_slice()) {
-        Ok(book) => book,
-        Err(fault) => match fault {
-            MakingFault::Memory => return Err(AllocError),
-            MakingFault::Refused(_) => unreachable(),
-        },
-    };
-    match JointBook::new(left, right) {
-        Ok(book) => Ok(book),
-        Err(_) => unreachable(),
-    }
-}
+impl SheetText for Table {
+    ghost planned = { Planned };
 
-// The plan of a table whose lines were accepted.
-fn plan_of(heap: Global, table: Table) -> Result<Plan<TableBook>, TableFault>
-    requires accepted { AllAccepted [] (lines_of table) }
-    requires held { DraftOf (lines_of table) table.draft }
-    requires few { length (lines_of table) ≤ longest_text }
-    ensures { MatchResult result (λ p. SheetOf (lines_of table) (rows_of p)) (PlanRefused (lines_of table)) }
-{
-    let Table { draft, lines } = table;
-    let book = book_of(heap, lines.as_slice())?;
-    match draft.into_plan(heap, book) {
-        Ok(plan) => Ok(plan),
-        Err(refused) => match refused.fault {
-            MakingFault::Memory => Err(TableFault::Memory),
-            MakingFault::Refused(refusal) => Err(TableFault::Refused(LineFault {
-                reason: refusal.reason,
-                line: line_of_message(lines.as_slice(), refusal.concerns),
-            })),
-        },
+    ghost unplanned = { Unplanned };
+
+    // The book is never refused: each message is in range, and has a number of its own.
+    fn into_plan(self, heap: Global) -> Result<Plan<TableBook>, TableFault> {
+        let Table { draft, lines } = self;
+        let periodic = periodic_messages(heap, lines.as_slice())?;
+        let window = window_messages(heap, lines.as_slice())?;
+        let book = book_of(heap, periodic.as_slice(), window.as_slice()).map_err(|fault| made_fault(
+            lines.as_slice(),
+            fault,
+        ))?;
+        draft
+            .into_plan(heap, book)
+            .map_err(|refused| made_fault(lines.as_slice(), refused.fault))
     }
 }
 
@@ -157,21 +91,12 @@ fn plan_of(heap: Global, table: Table) -> Result<Plan<TableBook>, TableFault>
 pub fn run(heap: Global, text: &[u8]) -> Result<String, RunFault>
     ensures { MatchResult result (λ s. SheetPrinted text.now (string_bytes s)) (RunRefused text.now) }
 {
-    let table = read_table(heap, text)?;
-    let plan = plan_of(heap, table)?;
-    match text_of(heap, plan.sheet()) {
-        Ok(text) => Ok(text),
-        Err(_) => Err(RunFault::Table(TableFault::Memory)),
-    }
+    run_of::<Table>(heap, text)
 }
 
 // What the sheet program prints: the sheet, or only the line that tells the fault.
 pub fn sheet(heap: Global, text: &[u8]) -> Result<String, AllocError>
     ensures { IfOk result (λ s. Printed text.now (string_bytes s)) }
 {
-    match run(heap, text) {
-        Ok(text) => Ok(text),
-        Err(RunFault::Table(TableFault::Memory)) => Err(AllocError),
-        Err(RunFault::Table(TableFault::Refused(fault))) => fault_text(heap, fault),
-    }
+    sheet_of::<Table>(heap, text)
 }

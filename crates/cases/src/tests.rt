@@ -1,7 +1,10 @@
 // Each case is a table text and what is printed of it.
 use std::process::Abort;
 use std::test::Fail;
-use texts::sheet::{run, sheet};
+use texts::line::Line;
+use texts::reader::{TableText, bus_draft, read};
+use texts::sheet::{SheetText, book_of, run, run_of, sheet, sheet_of};
+use texts::table::Table;
 
 struct Case {
     name: &'static str,
@@ -119,5 +122,34 @@ fn faulty_lines(rt: HostRuntime) -> Result<(), Fail> {
         assert_eq!(rt; part.bytes, line.as_bytes());
         assert_eq!(rt; part.start, start);
     }
+    Ok(())
+}
+
+// The steps of a run, each by itself.
+#[test]
+fn steps_of_a_run(rt: HostRuntime) -> Result<(), Fail> {
+    let case = &ACCEPTED[0];
+    let text = case.table.as_bytes();
+    let table: Table = read(rt.alloc(), text).ok().ok_or("not read")?;
+    assert_eq!(rt; table.periodic.len(), 3);
+    assert_eq!(rt; table.window.len(), 1);
+    let plan = table.into_plan(rt.alloc()).ok().ok_or("no plan")?;
+    assert_eq!(rt; plan.sheet().len(), 4);
+    let run = run_of::<Table>(rt.alloc(), text).ok().ok_or("no sheet")?;
+    assert_eq!(rt; run.as_str(), case.prints);
+    let printed = sheet_of::<Table>(rt.alloc(), text)?;
+    assert_eq!(rt; printed.as_str(), case.prints);
+    Ok(())
+}
+
+// A bus line begins a draft and a table, a node is added, and no messages have a book.
+#[test]
+fn first_steps(rt: HostRuntime) -> Result<(), Fail> {
+    let bus = Line::Bus(100, 40, 2, 25);
+    let _draft = bus_draft(rt.alloc(), bus).ok().ok_or("no draft")?;
+    let mut table = Table::begun(rt.alloc(), bus).ok().ok_or("not begun")?;
+    table.add(Line::Node(1, 20), 3).ok().ok_or("not added")?;
+    assert_eq!(rt; table.origins.len(), 0);
+    let _book = book_of(rt.alloc(), &[], &[]).ok().ok_or("no book")?;
     Ok(())
 }

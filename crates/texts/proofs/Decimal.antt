@@ -1,15 +1,20 @@
 -- The decimal digits of numbers, read from left to right.
-use Rattle.std.proofs.Common.{◌≡◌, ℕ, zero, suc, ◌+◌, ◌-◌, ◌*◌, ◌/◌, ◌%◌, ◌^◌, ◌<◌, ◌≤◌, min, true, false, leb, List, [], ◌∷◌, ◌++◌, map, length, get_or, drop, sym, refl, ap, ◌∙◌, subst, ⊎_elim, append_assoc, arith}
+use Rattle.std.proofs.Common.{◌≡◌, ℕ, zero, suc, ◌+◌, ◌-◌, ◌*◌, ◌/◌, ◌%◌, ◌^◌, ◌<◌, ◌≤◌, true, false, leb, cond, List, [], ◌∷◌, ◌++◌, map, length, get_or, take, drop, sym, refl, ap, ◌∙◌, subst, ⊎_elim, add-one, zero-add, arith, take_all}
 use Rattle.std.specs.Fmt as Written
 use Rattle.std.proofs.lemmas.Fmt.{decimal_digit, decimal-digits_of}
 use Rattle.std.specs.Int.Digits.{digits_of}
-use Rattle.std.proofs.lemmas.Int.Digits.{digits_of_step, first_digits_of, all_below_base_digits_of, length-digits_of_step}
-use Rattle.std.proofs.lemmas.List.{map_push, drop_more, drop_all, get_or-map, length-map, length-append, get_or_append_left}
+use Rattle.std.proofs.lemmas.Int.Digits.{digits_of_step, first_digits_of, all_below_base_digits_of, length-digits_of_step, digits_value_more}
+use Rattle.std.proofs.lemmas.List.{map_push, take_more, get_or-take, get_or-map, length-map, length-append, get_or_append_left}
 use Rattle.std.proofs.ByRecursion.{All-get_or}
 use Rattle.std.proofs.lemmas.Nat.{div-mul-add}
-use Rattle.std.proofs.lemmas.Bool.{cases_eq, cases_lt, le-leb, and_from, both_ways}
+use Rattle.std.proofs.Math.Numerals.{one-add}
+use Rattle.std.proofs.lemmas.Bool.{cases_Bool, cases_eq, le-leb, and_from, both_ways}
 use Rattle.std.proofs.lemmas.Bool.Decides.{nat_tests}
-use Rattle.texts.specs.Forms.{is_ascii_digit, decimal, value_cap, Ends, Spelled, NoNumber}
+use Rattle.std.specs.Char.{is_ascii_digit, digit_value}
+use Rattle.std.specs.List.{AllByRecursion, prefix_len}
+use Rattle.std.specs.Str.Parse.{digits_value}
+use Rattle.std.proofs.lemmas.Str.{digit_value_digit}
+use Rattle.texts.specs.Forms.{decimal, Ends, NoNumber}
 
 -- The last digit of a number, and what stands before it.
 split : (n d : ℕ) → d < 10 → ((n * 10 + d) / 10 ≡ n) × ((n * 10 + d) % 10 ≡ d)
@@ -41,34 +46,6 @@ decimal_more n d p h =
 is_digit : (b : ℕ) → is_ascii_digit b ≡ true → (48 ≤ b) × (b ≤ 57)
 is_digit b h = (grind (arith, nat_tests), grind (arith, nat_tests))
 
--- One digit more.
-pub spelled_step : (line : List ℕ) (at end value b new : ℕ) → at ≤ end → end < length line → b ≡ get_or line end 0 → is_ascii_digit b ≡ true
-    → (end ≡ at → value ≡ 0) → (at < end → Spelled line at end value) → (at < end → 1 ≤ value) → new ≡ min (value * 10 + (b - 48)) value_cap
-    → Spelled line at (end + 1) new
-spelled_step line at end value b new low high is dig first so_far nonzero cut =
-    let d = is_digit b dig in
-    let rest : drop end line ≡ b ∷ drop (end + 1) line = drop_more line end 0 high ∙ ap (λ x. x ∷ drop (end + 1) line) (sym is) in
-    ⊎_elim
-    (λ same. record {
-      number = b - 48;
-      digits =
-          let one : decimal (b - 48) ≡ b ∷ [] = decimal_one (b - 48) (omega arith) ∙ ap (λ x. x ∷ []) (omega arith) in
-          rw one (ap (λ k. drop k line) (sym same) ∙ rest);
-      cut = omega (arith, first same);
-    })
-    (λ other.
-    let l : at < end = omega arith in
-    let sp = so_far l in
-    let n = sp.number in
-    let p : 0 < n = omega (arith, nonzero l, sp.cut) in
-    let more : decimal (n * 10 + (b - 48)) ≡ decimal n ++ b ∷ [] = decimal_more n (b - 48) p (omega arith) ∙ ap (λ x. decimal n ++ x ∷ []) (omega arith) in
-    record {
-      number = n * 10 + (b - 48);
-      digits = rw (more, append_assoc) (sp.digits ∙ ap (λ r. decimal n ++ r) rest);
-      cut = omega (arith, sp.cut);
-    })
-    (cases_eq end at)
-
 -- The first byte of a number is a digit, and no zero but for the number 0.
 pub first_byte : (n : ℕ) → (0 < length (decimal n)) × (is_ascii_digit (get_or (decimal n) 0 0) ≡ true) × (0 < n → 48 < get_or (decimal n) 0 0)
 unfolding decimal
@@ -96,23 +73,67 @@ none_without_digit (b ∷ bs) h n rest ends e =
     both_ways (is_ascii_digit b) h (rw (first_found (b ∷ bs) rest n e) (first_byte n).1)
 
 -- No number begins with a zero that a digit follows.
-pub none_after_zero : (line : List ℕ) (at end : ℕ) → Spelled line at end 0 → (Ends (drop end line) → ⊥) → NoNumber (drop at line)
-none_after_zero line at end sp goes_on n rest ends e =
-    let zero_number : sp.number ≡ 0 = omega (arith, sp.cut) in
-    let bytes : drop at line ≡ 48 ∷ drop end line = sp.digits ∙ ap (λ k. decimal k ++ drop end line) zero_number ∙ ap (λ l. l ++ drop end line) (decimal_one 0 (omega arith)) in
+pub none_after_zero : (ds more : List ℕ) → AllByRecursion (λ b. is_ascii_digit b ≡ true) ds → 0 < length ds → NoNumber (48 ∷ (ds ++ more))
+none_after_zero [] more all some n rest ends e = absurd (omega arith)
+none_after_zero (b ∷ bs) more all some n rest ends e =
     ⊎_elim
-    (λ z. let tail : 48 ∷ drop end line ≡ 48 ∷ rest = sym bytes ∙ e ∙ ap (λ k. decimal k ++ rest) z ∙ ap (λ l. l ++ rest) (decimal_one 0 (omega arith)) in
-    goes_on (subst Ends (sym (ap (drop 1) tail)) ends))
-    (λ nz. let f = first_found (drop at line) rest n e in omega (arith, ap (λ l. get_or l 0 0) bytes, (first_byte n).2 (omega arith)))
+    (λ z.
+    let tail : 48 ∷ b ∷ (bs ++ more) ≡ 48 ∷ rest = e ∙ ap (λ k. decimal k ++ rest) z ∙ ap (λ l. l ++ rest) (decimal_one 0 (omega arith)) in
+    both_ways (is_ascii_digit b) (subst Ends (sym (ap (drop 1) tail)) ends) all.0)
+    (λ nz. let f = first_found (48 ∷ b ∷ (bs ++ more)) rest n e in omega (arith, (first_byte n).2 (omega arith)))
     (cases_eq n 0)
 
--- What stands at a place of the line decides whether the rest of it begins with a digit.
-pub ends_at : (line : List ℕ) (k : ℕ) → (k < length line → is_ascii_digit (get_or line k 0) ≡ false) → Ends (drop k line)
-ends_at line k h =
-    ⊎_elim (λ l. rw (drop_more line k 0 l) (h l)) (λ l. rw (drop_all k line l) tt) (cases_lt k (length line))
+-- The value of the digit at a place.
+pub digit_at : (ds : List ℕ) → AllByRecursion (λ b. is_ascii_digit b ≡ true) ds → (i : ℕ) → i < length ds
+    → (digit_value (get_or ds i 0) + 48 ≡ get_or ds i 0) × (get_or ds i 0 ≤ 57)
+digit_at ds all i h =
+    let d = is_digit (get_or ds i 0) (All-get_or (λ b. is_ascii_digit b ≡ true) ds i 0 h all) in
+    (digit_value_digit (get_or ds i 0) d, d.1)
 
-pub goes_on_at : (line : List ℕ) (k : ℕ) → k < length line → is_ascii_digit (get_or line k 0) ≡ true → Ends (drop k line) → ⊥
-goes_on_at line k l d e = both_ways (is_ascii_digit (get_or line k 0)) (rw (drop_more line k 0 l) at e) d
+-- The digits that bytes begin with, and what follows them.
+module _ (b : ℕ) (bs : List ℕ) where
+  take_digit : is_ascii_digit b ≡ true → take (prefix_len is_ascii_digit (b ∷ bs)) (b ∷ bs) ≡ b ∷ take (prefix_len is_ascii_digit bs) bs
+  take_digit e = ap (λ v. take (cond v (1 + prefix_len is_ascii_digit bs) 0) (b ∷ bs)) e ∙ ap (λ n. take n (b ∷ bs)) (one-add (prefix_len is_ascii_digit bs))
+
+  drop_digit : is_ascii_digit b ≡ true → drop (prefix_len is_ascii_digit (b ∷ bs)) (b ∷ bs) ≡ drop (prefix_len is_ascii_digit bs) bs
+  drop_digit e = ap (λ v. drop (cond v (1 + prefix_len is_ascii_digit bs) 0) (b ∷ bs)) e ∙ ap (λ n. drop n (b ∷ bs)) (one-add (prefix_len is_ascii_digit bs))
+
+  no_digit : is_ascii_digit b ≡ false → prefix_len is_ascii_digit (b ∷ bs) ≡ 0
+  no_digit e = ap (λ v. cond v (1 + prefix_len is_ascii_digit bs) 0) e
+
+pub ahead_all : (bs : List ℕ) → AllByRecursion (λ b. is_ascii_digit b ≡ true) (take (prefix_len is_ascii_digit bs) bs)
+ahead_all [] = tt
+ahead_all (b ∷ bs) =
+    ⊎_elim (λ e. rw (take_digit b bs e) (e, ahead_all bs)) (λ e. rw (no_digit b bs e) tt) (cases_Bool (is_ascii_digit b))
+
+pub ends_after : (bs : List ℕ) → Ends (drop (prefix_len is_ascii_digit bs) bs)
+ends_after [] = tt
+ends_after (b ∷ bs) =
+    ⊎_elim (λ e. rw (drop_digit b bs e) (ends_after bs)) (λ e. rw (no_digit b bs e) e) (cases_Bool (is_ascii_digit b))
+
+-- Digits without a leading zero are those of the number that they spell.
+module _ (ds : List ℕ) (all : AllByRecursion (λ b. is_ascii_digit b ≡ true) ds) (big : 1 < length ds → 48 < get_or ds 0 0) where
+  spelled_to : (i : ℕ) → i < length ds → decimal (digits_value 10 (take (i + 1) ds)) ≡ take (i + 1) ds
+  spelled_to zero h =
+      let d = get_or ds 0 0 in
+      let v = digit_at ds all 0 h in
+      let n : digits_value 10 (take (0 + 1) ds) ≡ digit_value d = digits_value_more 10 ds 0 h ∙ zero-add (digit_value d) in
+      ap decimal n ∙ decimal_one (digit_value d) (omega arith) ∙ ap (λ x. x ∷ []) (omega arith) ∙ sym (take_more ds 0 0 h)
+  spelled_to (suc k) h =
+      let d = get_or ds (suc k) 0 in
+      let v = digit_at ds all (suc k) h in
+      let before : decimal (digits_value 10 (take (suc k) ds)) ≡ take (suc k) ds = rw (add-one k) at (spelled_to k (omega arith)) in
+      let m = digits_value 10 (take (suc k) ds) in
+      let nonzero : 0 < m = ⊎_elim
+      (λ z. omega (arith, ap (λ l. get_or l 0 0) (sym before ∙ ap decimal z ∙ decimal_one 0 (omega arith)), get_or-take (suc k) ds 0 0 (omega arith), big (omega arith)))
+      (λ nz. omega arith) (cases_eq m 0) in
+      ap decimal (digits_value_more 10 ds (suc k) h) ∙ decimal_more m (digit_value d) nonzero (omega arith)
+      ∙ ap (λ l. l ++ (48 + digit_value d) ∷ []) before ∙ ap (λ x. take (suc k) ds ++ x ∷ []) (omega arith) ∙ sym (take_more ds (suc k) 0 h)
+
+  pub spelled_all : 0 < length ds → decimal (digits_value 10 ds) ≡ ds
+  spelled_all some =
+      let all_taken : take (length ds - 1 + 1) ds ≡ ds = take_all (length ds - 1 + 1) ds (omega arith) in
+      ap (λ l. decimal (digits_value 10 l)) (sym all_taken) ∙ spelled_to (length ds - 1) (omega arith) ∙ all_taken
 
 -- What `{n}` writes is the number's decimal digits.
 pub written : (n : ℕ) → n < 2 ^ 64 → Written.decimal n ≡ decimal n

@@ -2,3 +2,5 @@ pub mod Decimal
 pub mod Fields
 pub mod Unique
 pub mod OfForms
+pub mod MapErr
+pub mod Books

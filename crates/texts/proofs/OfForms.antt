@@ -1,16 +1,15 @@
 -- From the form of a line to the line.
-use Rattle.std.proofs.Common.{◌≡◌, ℕ, suc, ◌+◌, ◌<◌, ◌≤◌, true, false, ◌&&◌, leb, List, [], ◌∷◌, ◌++◌, length, get_or, take, drop, Some, None, Option, sym, refl, ap, ◌∙◌, inl, ⊎_elim, add-one, arith, rules}
-use Rattle.std.proofs.lemmas.List.{length-map, length-take-le, get_or-map, get_or-take, drop_more, drop_all, append-nil}
+use Rattle.std.proofs.Common.{◌≡◌, ℕ, suc, ◌+◌, ◌<◌, ◌≤◌, true, false, ◌&&◌, leb, List, [], ◌∷◌, ◌++◌, length, get_or, drop, Some, None, sym, refl, ap, ◌∙◌, inl, ⊎_elim, add-one, arith, rules}
+use Rattle.std.proofs.lemmas.List.{length-map, get_or-map, drop_more, drop_all, append-nil}
 use Rattle.std.proofs.lemmas.Bool.{and_parts, cases_lt, leb-true, lt-leb, and_right}
 use Rattle.std.proofs.lemmas.Bool.Decides.{nat_tests}
 use Rattle.fields.specs.Limits.{lowest, highest, admitted}
 use Rattle.fields.specs.declared.limits.Field.{Field}
 use Rattle.plan.specs.declared.draft.Message.{Message}
 use Rattle.texts.specs.Forms.{value_cap, cut, fields, printed, FormOf}
-use Rattle.texts.specs.Lines.{kind_by, next_phase, values_of, kind_of, letter_of, fields_of, all_admitted, firsts, line_text, fits, Figures, OutOf}
+use Rattle.texts.specs.Lines.{kind_by, values_of, kind_of, letter_of, fields_of, all_admitted, firsts, line_text, fits, Figures, OutOf}
 use Rattle.texts.specs.declared.line.Kind.{Kind}
 use Rattle.texts.specs.declared.line.Kind.TheVariants as kind
-use Rattle.texts.specs.declared.line.Phase.{Phase}
 use Rattle.texts.specs.declared.line.Line.{Line}
 use Rattle.texts.specs.declared.line.Line.TheVariants as line
 use Rattle.texts.proofs.Unique.{fields_same}
@@ -37,16 +36,16 @@ same_numbers bytes letter values f l e =
     )
 
 -- How many numbers the form has.
-form_length : (bytes : List ℕ) (letter count : ℕ) (values : List ℕ) (f : FormOf bytes letter (take count values)) → count ≤ length values → length f.numbers ≡ count
-form_length bytes letter count values f few = omega (arith, length-map f.numbers cut, ap length f.kept, length-take-le count values few)
+form_length : (bytes : List ℕ) (letter : ℕ) (values : List ℕ) (f : FormOf bytes letter values) → length f.numbers ≡ length values
+form_length bytes letter values f = sym (length-map f.numbers cut) ∙ ap length f.kept
 
 -- A line of the same text is of the kind that the form says.
-pub same_kind : (bytes : List ℕ) (letter count : ℕ) (values : List ℕ) → FormOf bytes letter (take count values) → count ≤ length values → (l : Line)
-    → bytes ≡ line_text l → kind_by letter count ≡ Some (kind_of l)
-same_kind bytes letter count values f few l e =
-    let s = same_numbers bytes letter (take count values) f l e in
-    let n : count ≡ length (values_of l) = sym (form_length bytes letter count values f few) ∙ ap length s.1 in
-    ap (λ x. kind_by x count) s.0 ∙ ap (kind_by (letter_of l)) n ∙ kind_said l
+pub same_kind : (bytes : List ℕ) (letter : ℕ) (values : List ℕ) → FormOf bytes letter values → (l : Line) → bytes ≡ line_text l
+    → kind_by letter (length values) ≡ Some (kind_of l)
+same_kind bytes letter values f l e =
+    let s = same_numbers bytes letter values f l e in
+    let n : length values ≡ length (values_of l) = sym (form_length bytes letter values f) ∙ ap length s.1 in
+    ap (λ x. kind_by x (length values)) s.0 ∙ ap (kind_by (letter_of l)) n ∙ kind_said l
 
 -- The letter of a kind, and the line of a kind with given numbers.
 abbrev letter_by : Kind → ℕ
@@ -122,28 +121,6 @@ module _ (values ns : List ℕ) (at : (j : ℕ) → j < length ns → get_or val
       let whole : get_or values k 0 ≡ get_or ns k 0 = here ∙ kept_whole f (get_or ns k 0) (rw here at p.0) in
       ap (λ v. v ∷ firsts fs values (suc k)) whole ∙ ap (λ t. get_or ns k 0 ∷ t) (firsts_cut fs (suc k) (omega arith) p.1)
 
--- The kept values of a form are its numbers, cut off.
-kept_at : (bytes : List ℕ) (letter count : ℕ) (values : List ℕ) (f : FormOf bytes letter (take count values)) → count ≤ length values
-    → (j : ℕ) → j < length f.numbers → get_or values j 0 ≡ cut (get_or f.numbers j 0)
-kept_at bytes letter count values f few j h =
-    let l : j < count = omega (arith, form_length bytes letter count values f few) in
-    sym (get_or-take count values j 0 l) ∙ ap (λ t. get_or t j 0) (sym f.kept) ∙ get_or-map cut f.numbers j 0 0 h
-
--- The line that a form with values in range is the text of.
-pub form_read : (bytes : List ℕ) (letter count : ℕ) (values : List ℕ) → FormOf bytes letter (take count values) → count ≤ length values → (k : Kind) (l : Line)
-    → kind_by letter count ≡ Some k → Figures k values l → (bytes ≡ line_text l) × (fits l ≡ true)
-form_read bytes letter count values f few k l said fig =
-    let ns = f.numbers in
-    let s = kind_says k letter count said in
-    let size : 0 + length (fields_of k) ≡ length ns = omega (arith, form_length bytes letter count values f few, s.1) in
-    let at = kept_at bytes letter count values f few in
-    let same : values_of l ≡ ns = fig.same_values ∙ firsts_cut values ns at (fields_of k) 0 (omega arith) fig.within_range ∙ firsts_all (fields_of k) ns 0 size in
-    let letters : letter ≡ letter_of l = s.0 ∙ ap letter_by (sym fig.same_kind) ∙ sym (letter_of_kind l) in (
-      f.form ∙ ap (λ x. printed x ns) letters ∙ ap (printed (letter_of l)) (sym same),
-      ap (λ q. all_admitted (fields_of q) (values_of l) 0) fig.same_kind ∙ ap (λ v. all_admitted (fields_of k) v 0) same
-          ∙ sym (all_cut values ns at (fields_of k) 0 (omega arith)) ∙ fig.within_range,
-    )
-
 -- The line that a form with a value out of range is the text of.
 pub record FormOut (bytes : List ℕ) (k : Kind) : Type 0 where
   pub line : Line
@@ -151,24 +128,41 @@ pub record FormOut (bytes : List ℕ) (k : Kind) : Type 0 where
   pub text : bytes ≡ line_text line
   pub out : fits line ≡ false
 
-pub form_out : (bytes : List ℕ) (letter count : ℕ) (values : List ℕ) → FormOf bytes letter (take count values) → count ≤ length values → (k : Kind)
-    → kind_by letter count ≡ Some k → OutOf k values → FormOut bytes k
-form_out bytes letter count values f few k said out =
-    let ns = f.numbers in
-    let s = kind_says k letter count said in
-    let size : 0 + length (fields_of k) ≡ length ns = omega (arith, form_length bytes letter count values f few, s.1) in
-    let at = kept_at bytes letter count values f few in
-    let l = line_from k ns in
-    let d = drawn k ns in
-    let same : values_of l ≡ ns = d.of_values ∙ firsts_all (fields_of k) ns 0 size in
-    let letters : letter ≡ letter_of l = s.0 ∙ ap letter_by (sym d.of_kind) ∙ sym (letter_of_kind l) in
-    record {
-      line = l;
-      of_kind = d.of_kind;
-      text = f.form ∙ ap (λ x. printed x ns) letters ∙ ap (printed (letter_of l)) (sym same);
-      out = ap (λ q. all_admitted (fields_of q) (values_of l) 0) d.of_kind ∙ ap (λ v. all_admitted (fields_of k) v 0) same
-          ∙ sym (all_cut values ns at (fields_of k) 0 (omega arith)) ∙ out;
-    }
+-- A form whose letter and count of values say a kind.
+module _ (bytes : List ℕ) (letter : ℕ) (values : List ℕ) (f : FormOf bytes letter values) (k : Kind) (said : kind_by letter (length values) ≡ Some k) where
+  -- its kept values are its numbers, cut off
+  kept_at : (j : ℕ) → j < length f.numbers → get_or values j 0 ≡ cut (get_or f.numbers j 0)
+  kept_at j h = ap (λ t. get_or t j 0) (sym f.kept) ∙ get_or-map cut f.numbers j 0 0 h
+
+  size : length (fields_of k) ≡ length f.numbers
+  size = sym (kind_says k letter (length values) said).1 ∙ sym (form_length bytes letter values f)
+
+  -- the line of these numbers, with the form's letter
+  is_text : (l : Line) → kind_of l ≡ k → values_of l ≡ f.numbers → bytes ≡ line_text l
+  is_text l of_kind same =
+      let letters : letter ≡ letter_of l = (kind_says k letter (length values) said).0 ∙ ap letter_by (sym of_kind) ∙ sym (letter_of_kind l) in
+      f.form ∙ ap (λ x. printed x f.numbers) letters ∙ ap (printed (letter_of l)) (sym same)
+
+  fits_is : (l : Line) → kind_of l ≡ k → values_of l ≡ f.numbers → fits l ≡ all_admitted (fields_of k) values 0
+  fits_is l of_kind same =
+      ap (λ q. all_admitted (fields_of q) (values_of l) 0) of_kind ∙ ap (λ v. all_admitted (fields_of k) v 0) same
+      ∙ sym (all_cut values f.numbers kept_at (fields_of k) 0 (omega (arith, size)))
+
+  -- with values in range it is the text of the line that they make
+  pub form_read : (l : Line) → Figures k values l → (bytes ≡ line_text l) × (fits l ≡ true)
+  form_read l fig =
+      let ns = f.numbers in
+      let same : values_of l ≡ ns = fig.same_values ∙ firsts_cut values ns kept_at (fields_of k) 0 (omega (arith, size)) fig.within_range
+      ∙ firsts_all (fields_of k) ns 0 (omega (arith, size)) in
+      (is_text l fig.same_kind same, fits_is l fig.same_kind same ∙ fig.within_range)
+
+  -- with a value out of range it is the text of a line that does not fit
+  pub form_out : OutOf k values → FormOut bytes k
+  form_out out =
+      let l = line_from k f.numbers in
+      let d = drawn k f.numbers in
+      let same : values_of l ≡ f.numbers = d.of_values ∙ firsts_all (fields_of k) f.numbers 0 (omega (arith, size)) in
+      record { line = l; of_kind = d.of_kind; text = is_text l d.of_kind same; out = fits_is l d.of_kind same ∙ out }
 
 -- No line has more than eight numbers.
 pub few_values : (l : Line) → length (values_of l) ≤ 8
@@ -177,9 +171,5 @@ few_values (line.Node n a) = omega arith
 few_values (line.Periodic m t j) = omega arith
 few_values (line.Window m n w) = omega arith
 
--- A line of the same text is out of turn where its kind is.
-pub no_turn : (p : Phase) (o : Option Kind) (k q : Kind) (next : Phase) → o ≡ Some k → o ≡ Some q → next_phase p k ≡ None → next_phase p q ≡ Some next → ⊥
-no_turn p o k q next is too none some =
-    let same : k ≡ q = cc in
-    let e : Some next ≡ None = sym some ∙ ap (next_phase p) (sym same) ∙ none in
-    let z : ◌≡◌ {A = ℕ} 0 1 = cc in omega arith
+pub none_some : {X : Type 0} {k : X} → None ≡ Some k → ⊥
+none_some e = cc

@@ -4,9 +4,10 @@ use Rattle.std.specs.List.{AllByRecursion}
 use Rattle.std.specs.Int.Digits.{digits_of}
 use Rattle.std.proofs.lemmas.Int.Digits.{all_below_base_digits_of, same_from_digits_of}
 use Rattle.std.proofs.ByRecursion.{All-map, All-weaker}
-use Rattle.std.proofs.lemmas.List.{drop_more, length-append, length-map}
+use Rattle.std.proofs.lemmas.List.{length-append, length-map}
 use Rattle.std.proofs.lemmas.Bool.{and_from, le-leb, both_ways}
-use Rattle.texts.specs.Forms.{is_ascii_digit, decimal, Ends, fields, printed, cut, NoNumber, NoForm, FormSoFar}
+use Rattle.std.specs.Char.{is_ascii_digit}
+use Rattle.texts.specs.Forms.{decimal, Ends, fields, printed, cut, NoNumber, NoForm, FormSoFar}
 use Rattle.texts.proofs.Decimal.{decimal_one, first_byte}
 
 byte_digit : (d : ℕ) → d < 10 → is_ascii_digit (48 + d) ≡ true
@@ -83,39 +84,37 @@ fields_same (n ∷ ns) rest (m ∷ ms) ends e =
     record { others = l.others; more = ap (λ x. x ∷ ms) (sym q.0) ∙ ap (λ t. n ∷ t) l.more; left = l.left }
 
 -- The next number of a line, where one is left.
-record NextNumber (line : List ℕ) (at : ℕ) (others : List ℕ) : Type 0 where
+record NextNumber (blank : ℕ) (bytes others : List ℕ) : Type 0 where
   number : ℕ
   rest : List ℕ
   are : others ≡ number ∷ rest
-  blank : get_or line at 0 ≡ 32
-  digits : drop (at + 1) line ≡ decimal number ++ fields rest []
+  is_blank : blank ≡ 32
+  digits : bytes ≡ decimal number ++ fields rest []
 
-next_number : (line : List ℕ) (at : ℕ) (others : List ℕ) → at < length line → drop at line ≡ fields others [] → NextNumber line at others
-next_number line at [] l e = let h = drop_more line at 0 l in let z : ◌≡◌ {A = ℕ} 0 1 = cc in absurd (omega arith)
-next_number line at (m ∷ ms) l e =
-    let h : get_or line at 0 ∷ drop (at + 1) line ≡ 32 ∷ (decimal m ++ fields ms []) = sym (drop_more line at 0 l) ∙ e in
-    record { number = m; rest = ms; are = refl; blank = ap (λ l. get_or l 0 0) h; digits = ap (drop 1) h }
+next_number : (blank : ℕ) (bytes others : List ℕ) → blank ∷ bytes ≡ fields others [] → NextNumber blank bytes others
+next_number blank bytes [] e = let z : ◌≡◌ {A = ℕ} 0 1 = cc in absurd (omega arith)
+next_number blank bytes (m ∷ ms) e = record { number = m; rest = ms; are = refl; is_blank = ap (λ l. get_or l 0 0) e; digits = ap (drop 1) e }
 
--- What a line that is read up to a place leaves for any other way to print it.
-left_over : (line : List ℕ) (letter : ℕ) (values : List ℕ) (at : ℕ) (f : FormSoFar line letter values at) (other : ℕ) (ms : List ℕ)
-    → line ≡ printed other ms → Left f.numbers (drop at line) ms
-left_over line letter values at f other ms e = fields_same f.numbers (drop at line) ms f.ends (ap (drop 1) (sym f.form ∙ e))
+-- What a line that is read up to the rest leaves for any other way to print it.
+left_over : (line : List ℕ) (letter : ℕ) (values rest : List ℕ) (f : FormSoFar line letter values rest) (other : ℕ) (ms : List ℕ)
+    → line ≡ printed other ms → Left f.numbers rest ms
+left_over line letter values rest f other ms e = fields_same f.numbers rest ms f.ends (ap (drop 1) (sym f.form ∙ e))
 
 -- No line is printed from a letter with numbers where no blank follows, where eight numbers stand before others, or where
 -- no number follows the blank.
-pub no_blank : (line : List ℕ) (letter : ℕ) (values : List ℕ) (at : ℕ) → FormSoFar line letter values at → at < length line
-    → (get_or line at 0 ≡ 32 → ⊥) → NoForm line
-no_blank line letter values at f l never other ms short e =
-    let o = left_over line letter values at f other ms e in never (next_number line at o.others l o.left).blank
+module _ (line : List ℕ) (letter : ℕ) (values : List ℕ) (blank : ℕ) (bytes : List ℕ) (f : FormSoFar line letter values (blank ∷ bytes)) where
+  pub no_blank : (blank ≡ 32 → ⊥) → NoForm line
+  no_blank never other ms short e =
+      let o = left_over line letter values (blank ∷ bytes) f other ms e in never (next_number blank bytes o.others o.left).is_blank
 
-pub no_room : (line : List ℕ) (letter : ℕ) (values : List ℕ) (at : ℕ) → FormSoFar line letter values at → at < length line → length values ≡ 8 → NoForm line
-no_room line letter values at f l full other ms short e =
-    let o = left_over line letter values at f other ms e in
-    let n = next_number line at o.others l o.left in
-    omega (arith, ap length o.more, length-append f.numbers o.others, ap length n.are, ap length f.kept, length-map f.numbers cut)
+  pub no_room : length values ≡ 8 → NoForm line
+  no_room full other ms short e =
+      let o = left_over line letter values (blank ∷ bytes) f other ms e in
+      let n = next_number blank bytes o.others o.left in
+      omega (arith, ap length o.more, length-append f.numbers o.others, ap length n.are, ap length f.kept, length-map f.numbers cut)
 
-pub no_number : (line : List ℕ) (letter : ℕ) (values : List ℕ) (at : ℕ) → FormSoFar line letter values at → at < length line → NoNumber (drop (at + 1) line) → NoForm line
-no_number line letter values at f l never other ms short e =
-    let o = left_over line letter values at f other ms e in
-    let n = next_number line at o.others l o.left in
-    never n.number (fields n.rest []) (fields_end n.rest [] tt) n.digits
+  pub no_number : NoNumber bytes → NoForm line
+  no_number never other ms short e =
+      let o = left_over line letter values (blank ∷ bytes) f other ms e in
+      let n = next_number blank bytes o.others o.left in
+      never n.number (fields n.rest []) (fields_end n.rest [] tt) n.digits

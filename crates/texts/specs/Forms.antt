@@ -1,10 +1,7 @@
 -- The forms of texts, by what is printed: a number by its decimal digits, a line by its letter and its numbers.
-use Rattle.std.specs.Prelude.{◌≡◌, ℕ, zero, suc, ◌+◌, ◌<◌, ◌≤◌, min, Bool, false, ◌&&◌, ◌⊎◌, List, [], ◌∷◌, ◌++◌, map, length, drop, ◌≢◌, nat_le}
+use Rattle.std.specs.Prelude.{◌≡◌, ℕ, zero, suc, ◌+◌, ◌<◌, ◌≤◌, min, false, ◌⊎◌, List, [], ◌∷◌, ◌++◌, map, length, ◌≢◌}
+use Rattle.std.specs.Char.{is_ascii_digit}
 use Rattle.std.specs.Int.Digits.{digits_of}
-
--- A byte from '0' to '9'.
-abbrev pub is_ascii_digit : ℕ → Bool
-is_ascii_digit b = nat_le 48 b && nat_le b 57
 
 -- The decimal digits of a number, with no leading zero.
 unfoldable pub decimal : ℕ → List ℕ
@@ -20,18 +17,17 @@ abbrev pub Ends : List ℕ → Type 0
 Ends [] = Unit {0}
 Ends (b ∷ bs) = is_ascii_digit b ≡ false
 
--- The digits of a number stand from one place of the line to another. The value is the number, cut off.
-pub record Spelled (line : List ℕ) (at end value : ℕ) : Type 0 where
+-- The bytes are the digits of a number, and then the rest. The value is the number, cut off.
+pub record Spelled (bytes rest : List ℕ) (value : ℕ) : Type 0 where
   pub number : ℕ
-  pub digits : drop at line ≡ decimal number ++ drop end line
+  pub digits : bytes ≡ decimal number ++ rest
   pub cut : value ≡ min number value_cap
 
 -- The same, and no digit comes after it.
-pub record Reads (line : List ℕ) (at end value : ℕ) : Type 0 where
-  pub spelled : Spelled line at end value
-  pub ends : Ends (drop end line)
-  pub further : at < end
-  pub within : end ≤ length line
+pub record Reads (bytes rest : List ℕ) (value : ℕ) : Type 0 where
+  pub spelled : Spelled bytes rest value
+  pub ends : Ends rest
+  pub shorter : length rest < length bytes
 
 -- No number begins here.
 abbrev pub NoNumber : List ℕ → Type 0
@@ -60,9 +56,9 @@ pub record FormOf (line : List ℕ) (letter : ℕ) (values : List ℕ) : Type 0 
 abbrev pub NoForm : List ℕ → Type 0
 NoForm line = (letter : ℕ) (ns : List ℕ) → length ns ≤ 8 → line ≢ printed letter ns
 
--- The same of a line that is read up to a place.
-pub record FormSoFar (line : List ℕ) (letter : ℕ) (values : List ℕ) (at : ℕ) : Type 0 where
+-- The same of a line that is read up to the rest.
+pub record FormSoFar (line : List ℕ) (letter : ℕ) (values rest : List ℕ) : Type 0 where
   pub numbers : List ℕ
-  pub form : line ≡ letter ∷ fields numbers (drop at line)
+  pub form : line ≡ letter ∷ fields numbers rest
   pub kept : map cut numbers ≡ values
-  pub ends : Ends (drop at line) ⊎ (numbers ≡ [])
+  pub ends : Ends rest ⊎ (numbers ≡ [])

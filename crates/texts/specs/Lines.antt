@@ -1,5 +1,7 @@
 -- The lines of a table: kinds, turns and ranges.
 use Rattle.std.specs.Prelude.{◌≡◌, ℕ, suc, Bool, true, false, cond, ◌&&◌, ◌⊎◌, List, [], ◌∷◌, ◌++◌, Some, None, Option, ◌==◌, slice_index}
+use Rattle.books.specs.declared.periodic.PeriodicMessage.{PeriodicMessage}
+use Rattle.books.specs.declared.window.WindowMessage.{WindowMessage}
 use Rattle.fields.specs.Limits.{admitted}
 use Rattle.fields.specs.declared.limits.Field.{Field}
 use Rattle.fields.specs.declared.limits.Field.TheVariants as field
@@ -84,6 +86,19 @@ pub record Figures (k : Kind) (vs : List ℕ) (l : Line) : Type 0 where
 -- Some value is out of its range.
 abbrev pub OutOf : Kind → List ℕ → Type 0
 OutOf k vs = all_admitted (fields_of k) vs 0 ≡ false
+
+-- The message of a P line and of a W line, as a book lists it.
+abbrev pub periodic_of_line : Line → List PeriodicMessage
+periodic_of_line (line.Bus g s l q) = []
+periodic_of_line (line.Node n a) = []
+periodic_of_line (line.Periodic m t j) = record { number = m.number; period = t; jitter = j } ∷ []
+periodic_of_line (line.Window m n w) = []
+
+abbrev pub window_of_line : Line → List WindowMessage
+window_of_line (line.Bus g s l q) = []
+window_of_line (line.Node n a) = []
+window_of_line (line.Periodic m t j) = []
+window_of_line (line.Window m n w) = record { number = m.number; releases = n; window = w } ∷ []
 
 -- The letter of a line, and its text without the line feed.
 abbrev pub letter_of : Line → ℕ

@@ -1,6 +1,6 @@
 -- Where the lines of a text begin.
 use Rattle.std.specs.Prelude.{◌≡◌, ℕ, ◌+◌, ◌<◌, ◌⊎◌, List, [], ◌∷◌, ◌++◌, length, drop}
-use Rattle.texts.specs.Tables.{OneLine}
+use Rattle.texts.specs.Readers.{OneLine}
 use Rattle.texts.specs.declared.fault.TableFault.TheVariants as fault
 use Rattle.texts.specs.declared.fault.RunFault.{RunFault}
 use Rattle.texts.specs.declared.fault.RunFault.TheVariants as run

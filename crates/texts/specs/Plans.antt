@@ -8,28 +8,22 @@ use Rattle.books.specs.Listing.{given, NotMade}
 use Rattle.books.specs.Joint.{joined, sides, SharedRefusal}
 use Rattle.books.specs.Periodic.{periodic, first_nominal, nominal_rows}
 use Rattle.books.specs.Window.{windowed, first_span, span_rows}
-use Rattle.books.specs.declared.joint.JointBook.{JointBook}
 use Rattle.books.specs.declared.periodic.PeriodicBook.{PeriodicBook}
 use Rattle.books.specs.declared.periodic.PeriodicMessage.{PeriodicMessage}
 use Rattle.books.specs.declared.window.WindowBook.{WindowBook}
 use Rattle.books.specs.declared.window.WindowMessage.{WindowMessage}
 use Rattle.plan.specs.Drafts.{entries_of}
-use Rattle.plan.specs.Plans.{Planned, rows_of}
+use Rattle.plan.specs.Plans.{Planned}
 use Rattle.plan.specs.Sheets.{SheetFault}
 use Rattle.plan.specs.declared.plan.Plan.{Plan}
-use Rattle.texts.specs.Sheets.{fault_of_making, text_of_sheet, text_of_fault}
-use Rattle.texts.specs.Tables.{TableOf, FirstFault}
-use Rattle.texts.specs.declared.fault.LineFault.{LineFault}
+use Rattle.texts.specs.Sheets.{fault_of_making}
+use Rattle.texts.specs.Tables.{BusRead, LineAdded, checks_of}
+use Rattle.texts.specs.Runs.{TableBook, SheetOfRead, NoSheetOfRead, PrintedOfRead}
 use Rattle.texts.specs.declared.fault.TableFault.{TableFault}
-use Rattle.texts.specs.declared.fault.TableFault.TheVariants as fault
 use Rattle.texts.specs.declared.fault.RunFault.{RunFault}
-use Rattle.texts.specs.declared.fault.RunFault.TheVariants as run
 use Rattle.texts.specs.declared.table.Table.{Table}
 
 -- The books of a table: periodic messages on the left, those with windows on the right.
-abbrev pub TableBook : Type 0
-TableBook = JointBook PeriodicBook WindowBook
-
 abbrev pub table_book : Book
 table_book = joined (row_book periodic) (row_book windowed)
 
@@ -51,6 +45,18 @@ SharedFault making.Memory = ⊥
 abbrev pub NoBook : List PeriodicMessage → List WindowMessage → MakingFault → Type 0
 NoBook ps ws f = NotMade (λ m. m.number) first_nominal ps f ⊎ (NotMade (λ m. m.number) first_span ws f ⊎ SharedFault f)
 
+-- A message is in both lists, as the books of these messages have it.
+abbrev pub SharedBetween : List PeriodicMessage → List WindowMessage → MakingFault → Type 0
+SharedBetween ps ws (making.Refused e) =
+    (l : PeriodicBook) × ((r : WindowBook) × (((n : ℕ) → row_at (nominal_rows l) n ≡ given (λ m. m.number) first_nominal ps n)
+    × ((n : ℕ) → row_at (span_rows r) n ≡ given (λ m. m.number) first_span ws n)
+    × SharedRefusal (row_book periodic) (row_book windowed) (nominal_rows l) (span_rows r) e))
+SharedBetween ps ws making.Memory = ⊥
+
+-- Why there is no such book, with the books that share a message.
+abbrev pub NotJoined : List PeriodicMessage → List WindowMessage → MakingFault → Type 0
+NotJoined ps ws f = NotMade (λ m. m.number) first_nominal ps f ⊎ (NotMade (λ m. m.number) first_span ws f ⊎ SharedBetween ps ws f)
+
 -- The plan of a table: its draft's messages, planned over the table's book.
 pub record PlanOf (t : Table) (p : Plan TableBook) : Type 0 where
   pub book : TableBook
@@ -65,22 +71,13 @@ pub record NoPlan (t : Table) (e : TableFault) : Type 0 where
       ⊎ ((b : TableBook) × BookOf (vec_items t.periodic) (vec_items t.window) b × SheetFault t.draft.bus table_book (book_state b) (entries_of t.draft) why)
 
 -- The sheet of a text: the rows of the plan of its table.
-pub record SheetOf (text bytes : List ℕ) : Type 0 where
-  pub table : Table
-  pub plan : Plan TableBook
-  pub read : TableOf text table
-  pub planned : PlanOf table plan
-  pub printed : bytes ≡ text_of_sheet (rows_of plan)
+abbrev pub SheetOf : List ℕ → List ℕ → Type 0
+SheetOf = SheetOfRead BusRead LineAdded PlanOf
 
 -- Why a text has no sheet: its first fault, or that its table has no plan. Of a want of memory nothing is said.
-pub record TableWithoutPlan (text : List ℕ) (e : TableFault) : Type 0 where
-  pub table : Table
-  pub read : TableOf text table
-  pub unplanned : NoPlan table e
-
 abbrev pub NoSheetOf : List ℕ → RunFault → Type 0
-NoSheetOf text (run.Table e) = (e ≡ fault.Memory) ⊎ (FirstFault text e ⊎ TableWithoutPlan text e)
+NoSheetOf = NoSheetOfRead BusRead LineAdded checks_of NoPlan
 
 -- What is printed of a text: its sheet, or only the line that tells its fault.
 abbrev pub Printed : List ℕ → List ℕ → Type 0
-Printed text bytes = SheetOf text bytes ⊎ ((f : LineFault) × NoSheetOf text (run.Table (fault.Refused f)) × (bytes ≡ text_of_fault f))
+Printed = PrintedOfRead BusRead LineAdded checks_of PlanOf NoPlan

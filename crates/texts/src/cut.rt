@@ -15,13 +15,9 @@ pub fn first_line(text: &[u8]) -> Option<Cut<'_>>
     ensures shorter { IfSome result (λ c. length c.line.now + length c.rest.now + 1 ≡ length text.now) }
     ensures none { IfNone result ((k : ℕ) → k < length text.now → slice_index text.now k ≢ 10) }
 {
-    for (i, b) in text.iter().enumerate() {
-        if *b == b'\n' {
-            return Some(Cut {
-                line: &text[0..i],
-                rest: &text[i + 1..],
-            });
-        }
-    }
-    None
+    let end = text.iter().position(|b| *b == b'\n')?;
+    Some(Cut {
+        line: &text[..end],
+        rest: &text[end + 1..],
+    })
 }

@@ -1,38 +1,50 @@
 // Reading one number of a line.
-ghost use Rattle.std.specs.Prelude.{◌≡◌, ℕ, ◌<◌, ◌≤◌, length, drop, MatchOption};
-ghost use Rattle.texts.specs.Forms.{is_ascii_digit, Reads, NoNumber};
+ghost use Rattle.std.specs.Prelude.{◌≡◌, true, MatchOption};
+ghost use Rattle.std.specs.Char.{is_ascii_digit};
+ghost use Rattle.std.specs.List.{AllByRecursion, prefix_len};
+ghost use Rattle.std.specs.Str.Parse.{digits_value};
+ghost use Rattle.texts.specs.Forms.{cut, Reads, NoNumber};
 
 // Past every range: a number of more digits than any range has is as good as this one.
 const CAP: u64 = 1_000_000_000_000;
 
-// A number, cut off at the cap, and the place after its last digit.
+// A number, cut off at the cap, and what follows its last digit.
 #[derive(Clone, Copy)]
-pub struct Number {
+pub struct Number<'a> {
     pub value: u64,
-    pub end: usize,
+    pub rest: &'a [u8],
 }
 
-pub fn is_digit(byte: u8) -> bool
-    ensures { result ≡ is_ascii_digit byte }
+// The number that these digits spell, cut off at the cap.
+fn value_of(digits: &[u8]) -> u64
+    requires { AllByRecursion (λ b. is_ascii_digit b ≡ true) digits.now }
+    ensures { result ≡ cut (digits_value 10 digits.now) }
 {
-    byte >= b'0' && byte <= b'9'
-}
-
-// The number that begins at a place of the line: digits without a leading zero, up to the first byte that is no digit.
-pub fn number_at(line: &[u8], at: usize) -> Option<Number>
-    ensures { MatchOption result (NoNumber (drop at line.now)) (λ n. Reads line.now at n.end n.value) }
-{
-    let mut end = at;
     let mut value: u64 = 0;
-    while end < line.len() && is_digit(line[end]) {
-        if end > at && value == 0 {
-            return None;
-        }
-        value = (value * 10 + u64::from(line[end] - b'0')).min(CAP);
-        end += 1;
+    for digit in digits {
+        value = (value * 10 + u64::from(*digit - b'0')).min(CAP);
     }
-    if end == at {
+    value
+}
+
+// How many digits the bytes begin with.
+fn digits_ahead(bytes: &[u8]) -> usize
+    ensures { result ≡ prefix_len is_ascii_digit bytes.now }
+{
+    bytes.iter().take_while(|b| b.is_ascii_digit()).count()
+}
+
+// The number that bytes begin with: digits without a leading zero, up to the first byte that is no digit.
+pub fn first_number(bytes: &[u8]) -> Option<Number<'_>>
+    ensures { MatchOption result (NoNumber bytes.now) (λ n. Reads bytes.now n.rest.now n.value) }
+{
+    let (digits, rest) = bytes.split_at(digits_ahead(bytes));
+    let (first, others) = digits.split_first()?;
+    if *first == b'0' && !others.is_empty() {
         return None;
     }
-    Some(Number { value, end })
+    Some(Number {
+        value: value_of(digits),
+        rest,
+    })
 }

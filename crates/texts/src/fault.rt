@@ -66,3 +66,11 @@ impl From<TableFault> for RunFault {
         RunFault::Table(e)
     }
 }
+
+impl From<AllocError> for RunFault {
+    ghost from_gives = { λ _ r. r ≡ run.Table table.Memory };
+
+    fn from(_e: AllocError) -> RunFault {
+        RunFault::Table(TableFault::Memory)
+    }
+}

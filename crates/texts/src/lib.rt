@@ -7,5 +7,6 @@ pub mod fault;
 pub mod form;
 pub mod line;
 pub mod part;
+pub mod reader;
 pub mod sheet;
 pub mod table;

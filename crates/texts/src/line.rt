@@ -1,11 +1,14 @@
 // One line of a table: its kind by its letter, its turn, and its figures within their ranges.
-ghost use Rattle.std.specs.Prelude.{◌≡◌, ◌<◌, true, false, IfSome, IfNone, MatchOption, MatchResult, ◌≢◌};
-ghost use Rattle.fields.specs.Limits.{admitted, highest};
-ghost use Rattle.texts.specs.Lines.{kind_by, next_phase, Figures, OutOf, LineRead, LineRefused, message_fields, values_of_message, all_admitted, firsts};
+ghost use Rattle.std.specs.Prelude.{◌≡◌, ◌≤◌, true, false, ◌⊎◌, length, IfSome, IfNone, MatchOption, MatchResult, ◌≢◌};
+ghost use Rattle.std.specs.Option.{option_to_list};
+ghost use Rattle.fields.specs.Limits.{admitted};
+ghost use Rattle.texts.specs.Lines.{kind_by, next_phase, Figures, OutOf, LineRead, LineRefused, fields_of, message_fields, values_of_message, all_admitted, firsts, periodic_of_line, window_of_line};
 ghost use Rattle.texts.specs.declared.line.Kind.TheVariants as kind;
 
 use crate::fault::LineFault;
 use crate::form::{Form, form_of};
+use books::periodic::PeriodicMessage;
+use books::window::WindowMessage;
 use fields::limits::{Field, admits};
 use fields::refusal::Reason;
 use plan::draft::Message;
@@ -37,15 +40,45 @@ pub enum Line {
     Window(Message, u16, u32),
 }
 
+impl Line {
+    // The message of a P line, as a book lists it.
+    pub fn periodic(&self) -> Option<PeriodicMessage>
+        ensures { option_to_list result ≡ periodic_of_line self.now }
+    {
+        match *self {
+            Line::Periodic(message, period, jitter) => Some(PeriodicMessage {
+                number: message.number,
+                period,
+                jitter,
+            }),
+            _ => None,
+        }
+    }
+
+    // The message of a W line, as a book lists it.
+    pub fn window(&self) -> Option<WindowMessage>
+        ensures { option_to_list result ≡ window_of_line self.now }
+    {
+        match *self {
+            Line::Window(message, releases, window) => Some(WindowMessage {
+                number: message.number,
+                releases,
+                window,
+            }),
+            _ => None,
+        }
+    }
+}
+
 // The kind of line that a letter and its count of numbers say.
 fn kind_of(form: &Form) -> Option<Kind>
-    ensures { result ≡ kind_by form.now.letter form.now.count }
+    ensures { result ≡ kind_by form.now.letter (length form.now.values.items) }
 {
-    match char::from(form.letter) {
-        'B' if form.count == 4 => Some(Kind::Bus),
-        'N' if form.count == 2 => Some(Kind::Node),
-        'P' if form.count == 8 => Some(Kind::Periodic),
-        'W' if form.count == 8 => Some(Kind::Window),
+    match (char::from(form.letter), form.values.len()) {
+        ('B', 4) => Some(Kind::Bus),
+        ('N', 2) => Some(Kind::Node),
+        ('P', 8) => Some(Kind::Periodic),
+        ('W', 8) => Some(Kind::Window),
         _ => None,
     }
 }
@@ -62,56 +95,50 @@ fn phase_after(phase: Phase, kind: Kind) -> Option<Phase>
     }
 }
 
-// A figure within its range, of a field that 16 bits hold.
-fn short(field: Field, value: u64) -> Option<u16>
-    ensures some { IfSome result (λ x. (x ≡ value) × (admitted field value ≡ true)) }
-    ensures none { highest field < 65536 → IfNone result (admitted field value ≢ true) }
+// A figure within its range.
+fn figure<T: TryFrom<u64>>(field: Field, value: u64) -> Option<T>
+where
+    T::Error: Drop,
+    ensures some { IfSome result (λ x. T.try_from_gives value (Ok x) × (admitted field value ≡ true)) }
+    ensures none { IfNone result ((admitted field value ≢ true) ⊎ ((e : T.Error) × T.try_from_gives value (Err e))) }
 {
     if !admits(field, value) {
         return None;
     }
-    u16::try_from(value).ok()
+    T::try_from(value).ok()
 }
 
-// The same of a field that 32 bits hold.
-fn long(field: Field, value: u64) -> Option<u32>
-    ensures some { IfSome result (λ x. (x ≡ value) × (admitted field value ≡ true)) }
-    ensures none { highest field < 4294967296 → IfNone result (admitted field value ≢ true) }
+fn bus_of(values: &[u64]) -> Option<Line>
+    requires { length values.now ≡ 4 }
+    ensures { MatchOption result (OutOf kind.Bus values.now) (Figures kind.Bus values.now) }
 {
-    if !admits(field, value) {
-        return None;
-    }
-    u32::try_from(value).ok()
-}
-
-fn bus_of(v: &[u64; 8]) -> Option<Line>
-    ensures { MatchOption result (OutOf kind.Bus v.now) (Figures kind.Bus v.now) }
-{
-    let cycle = short(Field::Cycle, v[0])?;
-    let offset = short(Field::Offset, v[1])?;
-    let minislot = short(Field::Minislot, v[2])?;
-    let minislots = short(Field::Minislots, v[3])?;
+    let cycle = figure(Field::Cycle, values[0])?;
+    let offset = figure(Field::Offset, values[1])?;
+    let minislot = figure(Field::Minislot, values[2])?;
+    let minislots = figure(Field::Minislots, values[3])?;
     Some(Line::Bus(cycle, offset, minislot, minislots))
 }
 
-fn node_of(v: &[u64; 8]) -> Option<Line>
-    ensures { MatchOption result (OutOf kind.Node v.now) (Figures kind.Node v.now) }
+fn node_of(values: &[u64]) -> Option<Line>
+    requires { length values.now ≡ 2 }
+    ensures { MatchOption result (OutOf kind.Node values.now) (Figures kind.Node values.now) }
 {
-    let number = short(Field::Node, v[0])?;
-    let latest = short(Field::LastStart, v[1])?;
+    let number = figure(Field::Node, values[0])?;
+    let latest = figure(Field::LastStart, values[1])?;
     Some(Line::Node(number, latest))
 }
 
 // The figures that messages of both kinds begin with.
-fn message_of(v: &[u64; 8]) -> Option<Message>
-    ensures { MatchOption result (all_admitted message_fields v.now 0 ≡ false) (λ m. (values_of_message m ≡ firsts message_fields v.now 0) × (all_admitted message_fields v.now 0 ≡ true)) }
+fn message_of(values: &[u64]) -> Option<Message>
+    requires { 6 ≤ length values.now }
+    ensures { MatchOption result (all_admitted message_fields values.now 0 ≡ false) (λ m. (values_of_message m ≡ firsts message_fields values.now 0) × (all_admitted message_fields values.now 0 ≡ true)) }
 {
-    let number = short(Field::Message, v[0])?;
-    let frame = short(Field::Frame, v[1])?;
-    let node = short(Field::Node, v[2])?;
-    let priority = short(Field::Priority, v[3])?;
-    let size = short(Field::Size, v[4])?;
-    let deadline = long(Field::Deadline, v[5])?;
+    let number = figure(Field::Message, values[0])?;
+    let frame = figure(Field::Frame, values[1])?;
+    let node = figure(Field::Node, values[2])?;
+    let priority = figure(Field::Priority, values[3])?;
+    let size = figure(Field::Size, values[4])?;
+    let deadline = figure(Field::Deadline, values[5])?;
     Some(Message {
         number,
         frame,
@@ -122,32 +149,35 @@ fn message_of(v: &[u64; 8]) -> Option<Message>
     })
 }
 
-fn periodic_of(v: &[u64; 8]) -> Option<Line>
-    ensures { MatchOption result (OutOf kind.Periodic v.now) (Figures kind.Periodic v.now) }
+fn periodic_of(values: &[u64]) -> Option<Line>
+    requires { length values.now ≡ 8 }
+    ensures { MatchOption result (OutOf kind.Periodic values.now) (Figures kind.Periodic values.now) }
 {
-    let message = message_of(v)?;
-    let period = long(Field::Period, v[6])?;
-    let jitter = long(Field::Jitter, v[7])?;
+    let message = message_of(values)?;
+    let period = figure(Field::Period, values[6])?;
+    let jitter = figure(Field::Jitter, values[7])?;
     Some(Line::Periodic(message, period, jitter))
 }
 
-fn window_of(v: &[u64; 8]) -> Option<Line>
-    ensures { MatchOption result (OutOf kind.Window v.now) (Figures kind.Window v.now) }
+fn window_of(values: &[u64]) -> Option<Line>
+    requires { length values.now ≡ 8 }
+    ensures { MatchOption result (OutOf kind.Window values.now) (Figures kind.Window values.now) }
 {
-    let message = message_of(v)?;
-    let releases = short(Field::Releases, v[6])?;
-    let window = long(Field::Window, v[7])?;
+    let message = message_of(values)?;
+    let releases = figure(Field::Releases, values[6])?;
+    let window = figure(Field::Window, values[7])?;
     Some(Line::Window(message, releases, window))
 }
 
-fn figures_of(kind: Kind, v: &[u64; 8]) -> Option<Line>
-    ensures { MatchOption result (OutOf kind v.now) (Figures kind v.now) }
+fn figures_of(kind: Kind, values: &[u64]) -> Option<Line>
+    requires { length values.now ≡ length (fields_of kind) }
+    ensures { MatchOption result (OutOf kind values.now) (Figures kind values.now) }
 {
     match kind {
-        Kind::Bus => bus_of(v),
-        Kind::Node => node_of(v),
-        Kind::Periodic => periodic_of(v),
-        Kind::Window => window_of(v),
+        Kind::Bus => bus_of(values),
+        Kind::Node => node_of(values),
+        Kind::Periodic => periodic_of(values),
+        Kind::Window => window_of(values),
     }
 }
 
@@ -166,20 +196,12 @@ pub fn line_of(bytes: &[u8], phase: Phase, number: u32) -> Result<Step, LineFaul
         reason: Reason::Malformed,
         line: number,
     };
-    let Some(form) = form_of(bytes) else {
-        return Err(malformed);
-    };
-    let Some(kind) = kind_of(&form) else {
-        return Err(malformed);
-    };
-    let Some(next) = phase_after(phase, kind) else {
-        return Err(malformed);
-    };
-    match figures_of(kind, &form.values) {
-        Some(line) => Ok(Step { line, next }),
-        None => Err(LineFault {
-            reason: Reason::OutOfRange,
-            line: number,
-        }),
-    }
+    let form = form_of(bytes).ok_or(malformed)?;
+    let kind = kind_of(&form).ok_or(malformed)?;
+    let next = phase_after(phase, kind).ok_or(malformed)?;
+    let line = figures_of(kind, form.values.as_slice()).ok_or(LineFault {
+        reason: Reason::OutOfRange,
+        line: number,
+    })?;
+    Ok(Step { line, next })
 }

@@ -19,10 +19,7 @@ fn line_at(text: &[u8], start: usize) -> &[u8]
     ensures { LineAt text.now start result.now }
 {
     let rest = &text[start..];
-    match first_line(rest) {
-        Some(cut) => cut.line,
-        None => rest,
-    }
+    first_line(rest).map_or(rest, |cut| cut.line)
 }
 
 // The line of that number. Line 0 is the empty part at the start, a line past the end the empty one at the end.

@@ -1,10 +1,16 @@
 // The sheet of a table text, as text.
-ghost use Rattle.std.specs.Prelude.{◌≡◌, IfOk, string_bytes, MatchResult};
-ghost use Rattle.texts.specs.Plans.{BookOf, NoBook, PlanOf, NoPlan, SheetOf, NoSheetOf, Printed};
-ghost use Rattle.texts.specs.Sheets.{text_of_row, text_of_sheet, text_of_fault, line_in, fault_at_message, fault_of_making};
+ghost use Rattle.std.specs.Prelude.{◌≡◌, ◌==◌, IfOk, string_bytes, MatchResult};
+ghost use Rattle.std.specs.List.{find};
+ghost use Rattle.std.specs.Option.{option_copied};
+ghost use Rattle.plan.specs.declared.plan.Plan.{Plan};
+ghost use Rattle.texts.specs.declared.fault.TableFault.{TableFault};
+ghost use Rattle.texts.specs.Runs.{TableBook, SheetOfRead, NoSheetOfRead, PrintedOfRead};
+ghost use Rattle.texts.specs.Plans.{BookOf, NotJoined, PlanOf, NoPlan, SheetOf, NoSheetOf, Printed};
+ghost use Rattle.texts.specs.Sheets.{text_of_row, text_of_sheet, text_of_fault, fault_at_message, fault_of_making};
 
 use crate::fault::{LineFault, RunFault, TableFault};
-use crate::table::{Origin, Table, read_table};
+use crate::reader::{TableText, read};
+use crate::table::{Origin, Table};
 use books::joint::JointBook;
 use books::periodic::{PeriodicBook, PeriodicMessage};
 use books::window::{WindowBook, WindowMessage};
@@ -14,27 +20,24 @@ use plan::plan::Plan;
 use std::alloc::{AllocError, Global};
 
 // The book of a table: its P lines are periodic, its W lines have windows.
-type TableBook = JointBook<PeriodicBook, WindowBook>;
+pub type TableBook = JointBook<PeriodicBook, WindowBook>;
 
-// The line of a message; 0 where the table has no such message.
-fn line_of_message(origins: &[Origin], message: u32) -> u32
-    ensures { result ≡ line_in origins.now message }
+// The origin of a message, where the table has it.
+fn origin_of(origins: &[Origin], message: u32) -> Option<&Origin>
+    ensures { option_copied result ≡ find (λ o. o.message == message) origins.now }
 {
-    for origin in origins {
-        if u32::from(origin.message) == message {
-            return origin.line;
-        }
-    }
-    0
+    origins
+        .iter()
+        .find(|origin| u32::from(origin.message) == message)
 }
 
-// A refusal that concerns a message, at that message's line.
+// A refusal that concerns a message, at that message's line; at line 0 where the table has no such message.
 fn at_message(origins: &[Origin], refusal: Refusal) -> TableFault
     ensures { result ≡ fault_at_message origins.now refusal }
 {
     TableFault::Refused(LineFault {
         reason: refusal.reason,
-        line: line_of_message(origins, refusal.concerns),
+        line: origin_of(origins, refusal.concerns).map_or(0, |origin| origin.line),
     })
 }
 
@@ -48,44 +51,49 @@ fn made_fault(origins: &[Origin], fault: MakingFault) -> TableFault
 }
 
 // The book of these messages.
-fn book_of(
+pub fn book_of(
     heap: Global,
     periodic: &[PeriodicMessage],
     window: &[WindowMessage],
 ) -> Result<TableBook, MakingFault>
-    ensures { MatchResult result (BookOf periodic.now window.now) (NoBook periodic.now window.now) }
+    ensures { MatchResult result (BookOf periodic.now window.now) (NotJoined periodic.now window.now) }
 {
-    let left = match PeriodicBook::new(heap, periodic) {
-        Ok(book) => book,
-        Err(fault) => return Err(fault),
-    };
-    let right = match WindowBook::new(heap, window) {
-        Ok(book) => book,
-        Err(fault) => return Err(fault),
-    };
-    match JointBook::new(left, right) {
-        Ok(book) => Ok(book),
-        Err(refused) => Err(MakingFault::Refused(refused.refusal)),
-    }
+    let left = PeriodicBook::new(heap, periodic)?;
+    let right = WindowBook::new(heap, window)?;
+    JointBook::new(left, right).map_err(|refused| MakingFault::Refused(refused.refusal))
 }
 
-// The plan of a table whose lines were accepted.
-fn plan_of(heap: Global, table: Table) -> Result<Plan<TableBook>, TableFault>
-    ensures { MatchResult result (PlanOf table) (NoPlan table) }
-{
-    let Table {
-        draft,
-        periodic,
-        window,
-        origins,
-    } = table;
-    let book = match book_of(heap, periodic.as_slice(), window.as_slice()) {
-        Ok(book) => book,
-        Err(fault) => return Err(made_fault(origins.as_slice(), fault)),
-    };
-    match draft.into_plan(heap, book) {
-        Ok(plan) => Ok(plan),
-        Err(refused) => Err(made_fault(origins.as_slice(), refused.fault)),
+// A table that a sheet is made of.
+pub trait SheetText: TableText {
+    // its plan, and why it has none
+    ghost planned: { Self → Plan TableBook → Type 0 };
+
+    ghost unplanned: { Self → TableFault → Type 0 };
+
+    // The plan of a table whose lines were accepted.
+    fn into_plan(self, heap: Global) -> Result<Plan<TableBook>, TableFault>
+        ensures { MatchResult result (planned self) (unplanned self) };
+}
+
+impl SheetText for Table {
+    ghost planned = { PlanOf };
+
+    ghost unplanned = { NoPlan };
+
+    fn into_plan(self, heap: Global) -> Result<Plan<TableBook>, TableFault> {
+        let Table {
+            draft,
+            periodic,
+            window,
+            origins,
+        } = self;
+        let book = book_of(heap, periodic.as_slice(), window.as_slice()).map_err(|fault| made_fault(
+            origins.as_slice(),
+            fault,
+        ))?;
+        draft
+            .into_plan(heap, book)
+            .map_err(|refused| made_fault(origins.as_slice(), refused.fault))
     }
 }
 
@@ -121,25 +129,36 @@ pub fn fault_text(heap: Global, fault: LineFault) -> Result<String, AllocError>
     format!(in heap; "E {number} {line}\n")
 }
 
+// The sheet of a text that is read to such a table, or the fault that it has none for.
+pub fn run_of<T: SheetText>(heap: Global, text: &[u8]) -> Result<String, RunFault>
+    ensures { MatchResult result (λ s. SheetOfRead T.begins T.adds T.planned text.now (string_bytes s)) (NoSheetOfRead T.begins T.adds T.checks T.unplanned text.now) }
+{
+    let table: T = read(heap, text)?;
+    let plan = table.into_plan(heap)?;
+    Ok(text_of(heap, plan.sheet())?)
+}
+
+// What is printed of such a text: the sheet, or only the line that tells the fault.
+pub fn sheet_of<T: SheetText>(heap: Global, text: &[u8]) -> Result<String, AllocError>
+    ensures { IfOk result (λ s. PrintedOfRead T.begins T.adds T.checks T.planned T.unplanned text.now (string_bytes s)) }
+{
+    match run_of::<T>(heap, text) {
+        Ok(text) => Ok(text),
+        Err(RunFault::Table(TableFault::Memory)) => Err(AllocError),
+        Err(RunFault::Table(TableFault::Refused(fault))) => fault_text(heap, fault),
+    }
+}
+
 // The sheet of a table text, or the fault that it has none for.
 pub fn run(heap: Global, text: &[u8]) -> Result<String, RunFault>
     ensures { MatchResult result (λ s. SheetOf text.now (string_bytes s)) (NoSheetOf text.now) }
 {
-    let table = read_table(heap, text)?;
-    let plan = plan_of(heap, table)?;
-    match text_of(heap, plan.sheet()) {
-        Ok(text) => Ok(text),
-        Err(_) => Err(RunFault::Table(TableFault::Memory)),
-    }
+    run_of::<Table>(heap, text)
 }
 
 // What the sheet program prints: the sheet, or only the line that tells the fault.
 pub fn sheet(heap: Global, text: &[u8]) -> Result<String, AllocError>
     ensures { IfOk result (λ s. Printed text.now (string_bytes s)) }
 {
-    match run(heap, text) {
-        Ok(text) => Ok(text),
-        Err(RunFault::Table(TableFault::Memory)) => Err(AllocError),
-        Err(RunFault::Table(TableFault::Refused(fault))) => fault_text(heap, fault),
-    }
+    sheet_of::<Table>(heap, text)
 }

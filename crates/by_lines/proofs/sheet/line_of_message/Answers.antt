@@ -1,39 +1,27 @@
-use Rattle.std.proofs.Common.{◌≡◌, ◌+◌, cond, get_or, drop, sym, ◌∙◌, arith}
-use Rattle.std.proofs.lemmas.List.{at_drop_more, at_drop_all}
-use Rattle.std.proofs.lemmas.Bool.{cond-true, cond-false}
-use Rattle.by_lines.specs.Sheets.{gives, line_from}
-use Rattle.texts.specs.declared.line.Line.{Line}
+use Rattle.std.proofs.Common.{◌≡◌, ◌+◌, ◌<◌, Some, None, sym, ap, ◌∙◌, arith, rules}
+use Rattle.std.specs.List.{position}
+use Rattle.std.specs.Option.{option_map_or, unwrap_or}
+use Rattle.std.specs.Result.{result_ok}
+use Rattle.std.proofs.lemmas.Result.{Ok-from_Ok_iff}
+use Rattle.std.proofs.lemmas.List.Quantifiers.{position-Some}
 use Rattle.texts.specs.declared.line.Line.TheVariants as line
+use Rattle.by_lines.specs.Sheets.{gives}
+use Rattle.by_lines.proofs.Numbers.{line_of_is}
 use Rattle.by_lines.proofs.sheet.line_of_message.Goals as goal
 
-nowhere : Line
-nowhere = line.Bus 0 0 0 0
-
-pub returns-then-gives_message : goal.returns-then-gives_message
-unfolding nowhere
-returns-then-gives_message c =
-    let xs = c.args.lines.now in
-    let i = c.loop-line.line-index in
-    let m = c.args.message in
-    let n = c.loop-line.number in
-    let here : line_from n (drop i xs) m ≡ cond (gives m (get_or xs i nowhere)) n (line_from (n + 1) (drop (i + 1) xs) m) =
-    at_drop_more (λ ls. line_from n ls m) xs i nowhere c.loop-line-test.true in
-    sym (cond-true (gives m (get_or xs i nowhere)) n (line_from (n + 1) (drop (i + 1) xs) m) (sym c.if-gives_message.ensures)) ∙ sym here ∙ c.loop-line.invariant.2
-
-pub loop-line-preserved : goal.loop-line-preserved
-unfolding nowhere
-loop-line-preserved c =
-    let xs = c.args.lines.now in
-    let i = c.loop-line.line-index in
-    let m = c.args.message in
-    let n = c.loop-line.number in
-    let here : line_from n (drop i xs) m ≡ cond (gives m (get_or xs i nowhere)) n (line_from (n + 1) (drop (i + 1) xs) m) =
-    at_drop_more (λ ls. line_from n ls m) xs i nowhere c.loop-line-test.true in (
-      omega arith,
-      omega arith,
-      sym (cond-false (gives m (get_or xs i nowhere)) n (line_from (n + 1) (drop (i + 1) xs) m) (sym c.if-gives_message.ensures)) ∙ sym here ∙ c.loop-line.invariant.2,
-    )
+pub returns-in_err-place : goal.returns-in_err-place
+returns-in_err-place c few =
+    let none : position (gives c.args.message) c.args.lines.now ≡ None = search rules in
+    rw c.from_residual.ensures (sym (line_of_is c.args.lines.now c.args.message ∙ ap (λ o. option_map_or (λ i. i + 2) o 0) none))
 
 pub returns : goal.returns
-returns c =
-    sym (at_drop_all (λ ls. line_from c.loop-line.number ls c.args.message) c.args.lines.now c.loop-line.line-index c.loop-line-test.false) ∙ c.loop-line.invariant.2
+returns c few =
+    let ls = c.args.lines.now in
+    let m = c.args.message in
+    let i = c.in_ok-place.place in
+    let there : position (gives m) ls ≡ Some i = search rules in
+    let inside = position-Some (gives m) ls i (line.Bus 0 0 0 0) there in
+    let sum : c.saturating_add.result ≡ i + 2 = omega arith in
+    let fits = Ok-from_Ok_iff c.try_from.result (c.saturating_add.result < 4294967296) c.saturating_add.result c.try_from.ensures (omega arith) in
+    let number : c.ok.result ≡ Some (i + 2) = c.ok.ensures.value ∙ ap result_ok fits ∙ ap (λ n. Some n) sum in
+    ap (λ o. unwrap_or o 0) number ∙ sym (line_of_is ls m ∙ ap (λ o. option_map_or (λ i. i + 2) o 0) there)

@@ -1,49 +1,39 @@
-use Rattle.std.proofs.Common.{get_or, take, ◌∙◌, ⊎_elim, arith, length-set}
-use Rattle.std.proofs.lemmas.List.{take_more_set, length-take-le}
+use Rattle.std.proofs.Common.{◌≡◌, ◌<◌, [], ◌∷◌, ◌++◌, length, subst, arith, rules}
+use Rattle.std.proofs.lemmas.List.{length-append}
+use Rattle.texts.specs.Forms.{FormSoFar}
 use Rattle.texts.proofs.Unique.{no_blank, no_room, no_number}
-use Rattle.texts.proofs.Fields.{form_step, form_all}
+use Rattle.texts.proofs.Fields.{form_step}
 use Rattle.texts.proofs.form.form_of.Goals as goal
+use Rattle.texts.proofs.form.form_of.Goals.{In-Some}
 
-pub loop-at-preserved : goal.loop-at-preserved
-loop-at-preserved c =
-    let line = c.args.line.now in
-    let n = c.in_ok-number.ensures in
-    let vs = c.loop-at.values in (
-      n.within,
-      omega arith,
-      length-set vs c.loop-at.count c.in_ok-number.number.value ∙ c.loop-at.invariant.2,
-      rw (take_more_set vs c.loop-at.count c.in_ok-number.number.value (omega arith))
-          (form_step line (get_or line 0 0) (take c.loop-at.count vs) c.loop-at.at c.in_ok-number.number.end c.in_ok-number.number.value
-          c.loop-at.invariant.3 c.loop-at-test.true c.if-line-at-ne32.false n),
+-- The line up to the next byte.
+so_far : (c : In-Some) → FormSoFar c.args.line.now c.in_ok-letter.letter.now c.loop-blank.values.items (c.in-Some.blank.now ∷ c.in-Some.digits.now)
+so_far c =
+    subst (λ r. FormSoFar c.args.line.now c.in_ok-letter.letter.now c.loop-blank.values.items r) c.in-Some.ensures.cases.0 c.loop-blank.invariant.1
+
+pub returns-then-blank-ne32-clause-form : goal.returns-then-blank-ne32-clause-form
+returns-then-blank-ne32-clause-form c =
+    no_blank c.args.line.now c.in_ok-letter.letter.now c.loop-blank.values.items c.in-Some.blank.now c.in-Some.digits.now
+    (so_far (goal.at.returns-then-blank-ne32-clause-form c).In-Some) c.if-blank-ne32.true
+
+pub returns-in_err-number-clause-form : goal.returns-in_err-number-clause-form
+returns-in_err-number-clause-form c =
+    rw c.from_residual-in_err-number.ensures
+    (no_number c.args.line.now c.in_ok-letter.letter.now c.loop-blank.values.items c.in-Some.blank.now c.in-Some.digits.now
+    (so_far (goal.at.returns-in_err-number-clause-form c).In-Some) c.in_err-number.ensures)
+
+pub returns-in_err-ok-clause-form : goal.returns-in_err-ok-clause-form
+returns-in_err-ok-clause-form c =
+    let full : length c.loop-blank.values.items ≡ 8 = search rules in
+    rw c.from_residual-in_err-ok.ensures
+    (no_room c.args.line.now c.in_ok-letter.letter.now c.loop-blank.values.items c.in-Some.blank.now c.in-Some.digits.now
+    (so_far (goal.at.returns-in_err-ok-clause-form c).In-Some) full)
+
+pub loop-blank-preserved : goal.loop-blank-preserved
+loop-blank-preserved c =
+    let pushed : c.try_push.new.self.items ≡ c.loop-blank.values.items ++ c.in_ok-number.number.value ∷ [] = search rules in
+    let room : length c.loop-blank.values.items < 8 = search rules in (
+      rw pushed (omega (arith, length-append c.loop-blank.values.items (c.in_ok-number.number.value ∷ []))),
+      rw pushed (form_step c.args.line.now c.in_ok-letter.letter.now c.loop-blank.values.items c.in-Some.digits.now c.in_ok-number.number.rest.now
+          c.in_ok-number.number.value (subst (λ b. FormSoFar c.args.line.now c.in_ok-letter.letter.now c.loop-blank.values.items (b ∷ c.in-Some.digits.now)) c.if-blank-ne32.false (so_far (goal.at.loop-blank-preserved c).In-Some)) c.in_ok-number.ensures),
     )
-
-pub returns : goal.returns
-returns c =
-    let line = c.args.line.now in
-    record {
-      form = form_all line (get_or line 0 0) (take c.loop-at.count c.loop-at.values) c.loop-at.at c.loop-at.invariant.3 c.loop-at-test.false;
-      few = omega arith;
-    }
-
-pub returns-then-line-at-ne32 : goal.returns-then-line-at-ne32
-returns-then-line-at-ne32 c =
-    let line = c.args.line.now in
-    let vs = take c.loop-at.count c.loop-at.values in
-    let f = c.loop-at.invariant.3 in
-    record {
-      form = ⊎_elim
-          (λ other. no_blank line (get_or line 0 0) vs c.loop-at.at f c.loop-at-test.true other)
-          (λ full. no_room line (get_or line 0 0) vs c.loop-at.at f c.loop-at-test.true
-          (length-take-le c.loop-at.count c.loop-at.values (omega arith) ∙ full.1))
-          c.then-line-at-ne32.either;
-      few = tt;
-    }
-
-pub returns-in_err-number : goal.returns-in_err-number
-returns-in_err-number c =
-    let line = c.args.line.now in
-    rw c.from_residual.ensures (record {
-      form = no_number line (get_or line 0 0) (take c.loop-at.count c.loop-at.values) c.loop-at.at c.loop-at.invariant.3 c.loop-at-test.true
-          c.in_err-number.ensures;
-      few = tt;
-    })

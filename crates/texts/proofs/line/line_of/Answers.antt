@@ -1,65 +1,50 @@
-use Rattle.std.proofs.Common.{◌≡◌, ℕ, ◌≤◌, length, sym, refl, ap, ◌∙◌, inl, inr, arith}
-use Rattle.texts.specs.Lines.{letter_of, values_of, kind_of, kind_by, next_phase}
-use Rattle.texts.proofs.OfForms.{few_values, no_turn, same_kind, form_read, form_out}
+use Rattle.std.proofs.Common.{◌≡◌, length, Some, None, Err, sym, refl, ap, ◌∙◌, inl, inr, rules}
+use Rattle.fields.specs.declared.refusal.Reason.TheVariants.{Malformed, OutOfRange}
+use Rattle.texts.specs.Forms.{FormOf, NoForm}
+use Rattle.texts.specs.Lines.{letter_of, values_of, next_phase, kind_by, Figures, OutOf}
+use Rattle.texts.proofs.OfForms.{few_values, none_some, same_kind, form_read, form_out}
 use Rattle.texts.proofs.line.line_of.Goals as goal
 
-pub returns-in_default : goal.returns-in_default
-returns-in_default c = (refl, inl (refl, λ l next t. c.in_default.ensures.form (letter_of l) (values_of l) (few_values l) t.text))
+pub returns-in_err-form : goal.returns-in_err-form
+returns-in_err-form c =
+    let gives : c.from_residual.result ≡ Err (record { reason = Malformed; line = c.args.number }) = search rules in
+    let no : NoForm c.args.bytes.now = search rules in
+    rw gives (refl, inl (refl, λ l next t. no (letter_of l) (values_of l) (few_values l) t.text))
 
-pub returns-in_default-kind_of : goal.returns-in_default-kind_of
-returns-in_default-kind_of c =
-    let form = c.in-Some.form in
-    let few : form.count ≤ length form.values = omega (arith, c.in-Some.ensures.few) in (
-      refl,
-      inl (
-        refl,
-        λ l next t.
-            let k = same_kind c.args.bytes.now form.letter form.count form.values c.in-Some.ensures.form few l t.text in
-            let said = c.in_default-kind_of.ensures in
-            let z : ◌≡◌ {A = ℕ} 0 1 = cc in omega arith,
-      ),
-    )
+pub returns-in_err-kind : goal.returns-in_err-kind
+returns-in_err-kind c =
+    let form = c.in_ok-form.form in
+    let of_form : FormOf c.args.bytes.now form.letter form.values.items = search rules in
+    let gives : c.from_residual-in_err-kind.result ≡ Err (record { reason = Malformed; line = c.args.number }) = search rules in
+    let no : kind_by form.letter (length form.values.items) ≡ None = search rules in
+    rw gives (refl, inl (refl, λ l next t. none_some (sym no ∙ same_kind c.args.bytes.now form.letter form.values.items of_form l t.text)))
 
-pub returns-in_default-phase_after : goal.returns-in_default-phase_after
-returns-in_default-phase_after c =
-    let form = c.in-Some.form in
-    let few : form.count ≤ length form.values = omega (arith, c.in-Some.ensures.few) in (
-      refl,
-      inl (
-        refl,
-        λ l next t.
-            let k = same_kind c.args.bytes.now form.letter form.count form.values c.in-Some.ensures.form few l t.text in
-            no_turn c.args.phase (kind_by form.letter form.count) c.in-Some-kind_of.kind (kind_of l) next (sym c.in-Some-kind_of.ensures) k
-            (sym c.in_default-phase_after.ensures) t.turn,
-      ),
-    )
-
-pub returns-in-Some-figures_of : goal.returns-in-Some-figures_of
-returns-in-Some-figures_of c =
-    let form = c.in-Some.form in
-    let few : form.count ≤ length form.values = omega (arith, c.in-Some.ensures.few) in
-    let fig = c.in-Some-figures_of.ensures in
-    let r = form_read c.args.bytes.now form.letter form.count form.values c.in-Some.ensures.form few c.in-Some-kind_of.kind
-    c.in-Some-figures_of.line (sym c.in-Some-kind_of.ensures) fig in
-    record {
-      its_turn = record { text = r.0; turn = ap (next_phase c.args.phase) fig.same_kind ∙ sym c.in-Some-phase_after.ensures };
-      within_range = r.1;
-    }
-
-pub returns-in-None : goal.returns-in-None
-returns-in-None c =
-    let form = c.in-Some.form in
-    let few : form.count ≤ length form.values = omega (arith, c.in-Some.ensures.few) in
-    let o = form_out c.args.bytes.now form.letter form.count form.values c.in-Some.ensures.form few c.in-Some-kind_of.kind
-    (sym c.in-Some-kind_of.ensures) c.in-None.ensures in (
+pub returns-in_err-line : goal.returns-in_err-line
+returns-in_err-line c =
+    let form = c.in_ok-form.form in
+    let said : kind_by form.letter (length form.values.items) ≡ Some c.in_ok-kind.kind = search rules in
+    let turn : next_phase c.args.phase c.in_ok-kind.kind ≡ Some c.in_ok-next.next = search rules in
+    let of_form : FormOf c.args.bytes.now form.letter form.values.items = search rules in
+    let out : OutOf c.in_ok-kind.kind form.values.items = search rules in
+    let gives : c.from_residual-in_err-line.result ≡ Err (record { reason = OutOfRange; line = c.args.number }) = search rules in
+    let o = form_out c.args.bytes.now form.letter form.values.items of_form c.in_ok-kind.kind said out in
+    rw gives (
       refl,
       inr (
         refl,
-        record {
-          line = o.line;
-          next = c.in-Some-phase_after.next;
-          its_turn = record { text = o.text; turn = ap (next_phase c.args.phase) o.of_kind ∙ sym c.in-Some-phase_after.ensures };
-          out = o.out;
-        },
+        record { line = o.line; next = c.in_ok-next.next; its_turn = record { text = o.text; turn = rw o.of_kind turn }; out = o.out },
       ),
     )
+
+pub returns : goal.returns
+returns c =
+    let form = c.in_ok-form.form in
+    let said : kind_by form.letter (length form.values.items) ≡ Some c.in_ok-kind.kind = search rules in
+    let turn : next_phase c.args.phase c.in_ok-kind.kind ≡ Some c.in_ok-next.next = search rules in
+    let of_form : FormOf c.args.bytes.now form.letter form.values.items = search rules in
+    let fig : Figures c.in_ok-kind.kind form.values.items c.in_ok-line.line = search rules in
+    let r = form_read c.args.bytes.now form.letter form.values.items of_form c.in_ok-kind.kind said c.in_ok-line.line fig in
+    record {
+      its_turn = record { text = r.0; turn = ap (next_phase c.args.phase) fig.same_kind ∙ turn };
+      within_range = r.1;
+    }

@@ -1,7 +1,7 @@
 use Rattle.std.proofs.Common.{drop, sym, ◌∙◌, arith}
 use Rattle.std.proofs.lemmas.List.{take_rest, length-drop}
 use Rattle.texts.specs.Parts.{first, next, last}
-use Rattle.texts.specs.Tables.{OneLine}
+use Rattle.texts.specs.Readers.{OneLine}
 use Rattle.texts.proofs.part.part_of.Goals as goal
 use Rattle.texts.proofs.part.part_of.Goals.{in-Some, in-None}
 
