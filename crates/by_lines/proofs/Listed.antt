@@ -18,8 +18,8 @@ use Rattle.books.specs.Listing.{used, given, wrong_at, FirstWrong}
 use Rattle.books.specs.Periodic.{first_nominal, nominal_of, nominal_rows}
 use Rattle.books.specs.Window.{first_span, span_of, span_rows}
 use Rattle.books.specs.Rows.{row_at}
-use Rattle.books.specs.declared.periodic.PeriodicBook.{PeriodicBook}
-use Rattle.books.specs.declared.window.WindowBook.{WindowBook}
+use Rattle.books.specs.Periodic.{PeriodicBook}
+use Rattle.books.specs.Window.{WindowBook}
 use Rattle.books.specs.declared.periodic.PeriodicMessage.{PeriodicMessage}
 use Rattle.books.specs.declared.window.WindowMessage.{WindowMessage}
 use Rattle.delay.specs.declared.entry.Entry.{Entry}
@@ -247,9 +247,9 @@ pub book_is : (ls : List Line) (l : PeriodicBook) (r : WindowBook)
 unfolding book_of_lines
 book_is ls l r left right =
     let lefts = fill_by_all (given (λ (m : PeriodicMessage). m.number) first_nominal (periodic_of ls)) (nominal_rows l) 129 None
-    (length-map (vec_items l.rows.places) (option_map nominal_of) ∙ sym l.rows.places.ok.0 ∙ l.rows.sized) (λ k h. left k) in
+    (length-map (vec_items l.places) (option_map nominal_of) ∙ sym l.places.ok.0 ∙ l.sized) (λ k h. left k) in
     let rights = fill_by_all (given (λ (m : WindowMessage). m.number) first_span (window_of ls)) (span_rows r) 129 None
-    (length-map (vec_items r.rows.places) (option_map span_of) ∙ sym r.rows.places.ok.0 ∙ r.rows.sized) (λ k h. right k) in
+    (length-map (vec_items r.places) (option_map span_of) ∙ sym r.places.ok.0 ∙ r.sized) (λ k h. right k) in
     λ i. (lefts i, rights i)
 
 all_unmap : {X Y : Type 0} (f : X → Y) (P : Y → Type 0) (Q : X → Type 0) → ((x : X) → P (f x) → Q x) → (xs : List X) → AllByRecursion P (map f xs) → AllByRecursion Q xs

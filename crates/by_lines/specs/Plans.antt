@@ -11,9 +11,9 @@ use Rattle.books.specs.Joint.{joined as joint, sides}
 use Rattle.books.specs.Periodic.{periodic, first_nominal, nominal_rows}
 use Rattle.books.specs.Window.{windowed, first_span, span_rows}
 use Rattle.books.specs.declared.joint.JointBook.{JointBook}
-use Rattle.books.specs.declared.periodic.PeriodicBook.{PeriodicBook}
+use Rattle.books.specs.Periodic.{PeriodicBook}
 use Rattle.books.specs.declared.periodic.PeriodicMessage.{PeriodicMessage}
-use Rattle.books.specs.declared.window.WindowBook.{WindowBook}
+use Rattle.books.specs.Window.{WindowBook}
 use Rattle.books.specs.declared.window.WindowMessage.{WindowMessage}
 use Rattle.delay.specs.declared.bus.Bus.{Bus}
 use Rattle.delay.specs.declared.entry.Entry.{Entry}

@@ -8,9 +8,9 @@ use Rattle.books.specs.Listing.{given, NotMade}
 use Rattle.books.specs.Joint.{joined, sides, SharedRefusal}
 use Rattle.books.specs.Periodic.{periodic, first_nominal, nominal_rows}
 use Rattle.books.specs.Window.{windowed, first_span, span_rows}
-use Rattle.books.specs.declared.periodic.PeriodicBook.{PeriodicBook}
+use Rattle.books.specs.Periodic.{PeriodicBook}
 use Rattle.books.specs.declared.periodic.PeriodicMessage.{PeriodicMessage}
-use Rattle.books.specs.declared.window.WindowBook.{WindowBook}
+use Rattle.books.specs.Window.{WindowBook}
 use Rattle.books.specs.declared.window.WindowMessage.{WindowMessage}
 use Rattle.plan.specs.Drafts.{entries_of}
 use Rattle.plan.specs.Plans.{Planned}

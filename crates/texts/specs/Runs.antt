@@ -2,8 +2,8 @@
 use Rattle.std.specs.Prelude.{◌≡◌, ℕ, ◌⊎◌, List}
 use Rattle.fields.specs.Refusals.{Check}
 use Rattle.books.specs.declared.joint.JointBook.{JointBook}
-use Rattle.books.specs.declared.periodic.PeriodicBook.{PeriodicBook}
-use Rattle.books.specs.declared.window.WindowBook.{WindowBook}
+use Rattle.books.specs.Periodic.{PeriodicBook}
+use Rattle.books.specs.Window.{WindowBook}
 use Rattle.plan.specs.Plans.{rows_of}
 use Rattle.plan.specs.declared.plan.Plan.{Plan}
 use Rattle.texts.specs.Sheets.{text_of_sheet, text_of_fault}
