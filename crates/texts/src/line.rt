@@ -109,36 +109,42 @@ where
 }
 
 fn bus_of(values: &[u64]) -> Option<Line>
-    requires { length values.now ≡ 4 }
-    ensures { MatchOption result (OutOf kind.Bus values.now) (Figures kind.Bus values.now) }
+    ensures { length values.now ≡ 4 → MatchOption result (OutOf kind.Bus values.now) (Figures kind.Bus values.now) }
 {
-    let cycle = figure(Field::Cycle, values[0])?;
-    let offset = figure(Field::Offset, values[1])?;
-    let minislot = figure(Field::Minislot, values[2])?;
-    let minislots = figure(Field::Minislots, values[3])?;
+    let [cycle, offset, minislot, minislots] = values else {
+        return None;
+    };
+    let cycle = figure(Field::Cycle, *cycle)?;
+    let offset = figure(Field::Offset, *offset)?;
+    let minislot = figure(Field::Minislot, *minislot)?;
+    let minislots = figure(Field::Minislots, *minislots)?;
     Some(Line::Bus(cycle, offset, minislot, minislots))
 }
 
 fn node_of(values: &[u64]) -> Option<Line>
-    requires { length values.now ≡ 2 }
-    ensures { MatchOption result (OutOf kind.Node values.now) (Figures kind.Node values.now) }
+    ensures { length values.now ≡ 2 → MatchOption result (OutOf kind.Node values.now) (Figures kind.Node values.now) }
 {
-    let number = figure(Field::Node, values[0])?;
-    let latest = figure(Field::LastStart, values[1])?;
+    let [number, latest] = values else {
+        return None;
+    };
+    let number = figure(Field::Node, *number)?;
+    let latest = figure(Field::LastStart, *latest)?;
     Some(Line::Node(number, latest))
 }
 
 // The figures that messages of both kinds begin with.
 fn message_of(values: &[u64]) -> Option<Message>
-    requires { 6 ≤ length values.now }
-    ensures { MatchOption result (all_admitted message_fields values.now 0 ≡ false) (λ m. (values_of_message m ≡ firsts message_fields values.now 0) × (all_admitted message_fields values.now 0 ≡ true)) }
+    ensures { 6 ≤ length values.now → MatchOption result (all_admitted message_fields values.now 0 ≡ false) (λ m. (values_of_message m ≡ firsts message_fields values.now 0) × (all_admitted message_fields values.now 0 ≡ true)) }
 {
-    let number = figure(Field::Message, values[0])?;
-    let frame = figure(Field::Frame, values[1])?;
-    let node = figure(Field::Node, values[2])?;
-    let priority = figure(Field::Priority, values[3])?;
-    let size = figure(Field::Size, values[4])?;
-    let deadline = figure(Field::Deadline, values[5])?;
+    let [number, frame, node, priority, size, deadline, ..] = values else {
+        return None;
+    };
+    let number = figure(Field::Message, *number)?;
+    let frame = figure(Field::Frame, *frame)?;
+    let node = figure(Field::Node, *node)?;
+    let priority = figure(Field::Priority, *priority)?;
+    let size = figure(Field::Size, *size)?;
+    let deadline = figure(Field::Deadline, *deadline)?;
     Some(Message {
         number,
         frame,
@@ -150,28 +156,31 @@ fn message_of(values: &[u64]) -> Option<Message>
 }
 
 fn periodic_of(values: &[u64]) -> Option<Line>
-    requires { length values.now ≡ 8 }
-    ensures { MatchOption result (OutOf kind.Periodic values.now) (Figures kind.Periodic values.now) }
+    ensures { length values.now ≡ 8 → MatchOption result (OutOf kind.Periodic values.now) (Figures kind.Periodic values.now) }
 {
+    let [_, _, _, _, _, _, period, jitter] = values else {
+        return None;
+    };
     let message = message_of(values)?;
-    let period = figure(Field::Period, values[6])?;
-    let jitter = figure(Field::Jitter, values[7])?;
+    let period = figure(Field::Period, *period)?;
+    let jitter = figure(Field::Jitter, *jitter)?;
     Some(Line::Periodic(message, period, jitter))
 }
 
 fn window_of(values: &[u64]) -> Option<Line>
-    requires { length values.now ≡ 8 }
-    ensures { MatchOption result (OutOf kind.Window values.now) (Figures kind.Window values.now) }
+    ensures { length values.now ≡ 8 → MatchOption result (OutOf kind.Window values.now) (Figures kind.Window values.now) }
 {
+    let [_, _, _, _, _, _, releases, window] = values else {
+        return None;
+    };
     let message = message_of(values)?;
-    let releases = figure(Field::Releases, values[6])?;
-    let window = figure(Field::Window, values[7])?;
+    let releases = figure(Field::Releases, *releases)?;
+    let window = figure(Field::Window, *window)?;
     Some(Line::Window(message, releases, window))
 }
 
 fn figures_of(kind: Kind, values: &[u64]) -> Option<Line>
-    requires { length values.now ≡ length (fields_of kind) }
-    ensures { MatchOption result (OutOf kind values.now) (Figures kind values.now) }
+    ensures { length values.now ≡ length (fields_of kind) → MatchOption result (OutOf kind values.now) (Figures kind values.now) }
 {
     match kind {
         Kind::Bus => bus_of(values),

@@ -1,7 +1,7 @@
 use Rattle.std.proofs.Common.{◌≡◌, length, Some, None, Err, sym, refl, ap, ◌∙◌, inl, inr, rules}
 use Rattle.fields.specs.declared.refusal.Reason.TheVariants.{Malformed, OutOfRange}
 use Rattle.texts.specs.Forms.{FormOf, NoForm}
-use Rattle.texts.specs.Lines.{letter_of, values_of, next_phase, kind_by, Figures, OutOf}
+use Rattle.texts.specs.Lines.{letter_of, values_of, next_phase, kind_by, fields_of, Figures, OutOf}
 use Rattle.texts.proofs.OfForms.{few_values, none_some, same_kind, form_read, form_out}
 use Rattle.texts.proofs.line.line_of.Goals as goal
 
@@ -42,6 +42,8 @@ returns c =
     let said : kind_by form.letter (length form.values.items) ≡ Some c.in_ok-kind.kind = search rules in
     let turn : next_phase c.args.phase c.in_ok-kind.kind ≡ Some c.in_ok-next.next = search rules in
     let of_form : FormOf c.args.bytes.now form.letter form.values.items = search rules in
+    let size : length c.as_slice.result.now ≡ length (fields_of c.in_ok-kind.kind) = search rules in
+    let told = c.figures_of.ensures size in
     let fig : Figures c.in_ok-kind.kind form.values.items c.in_ok-line.line = search rules in
     let r = form_read c.args.bytes.now form.letter form.values.items of_form c.in_ok-kind.kind said c.in_ok-line.line fig in
     record {
