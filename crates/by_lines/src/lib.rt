@@ -3,3 +3,5 @@
 
 pub mod sheet;
 pub mod table;
+#[cfg(test)]
+mod tests;
