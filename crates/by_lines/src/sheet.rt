@@ -67,6 +67,7 @@ fn window_messages(heap: Global, lines: &[Line]) -> Result<Vec<WindowMessage>, A
     lines.iter().flat_map(Line::window).collect(heap)
 }
 
+// As that of a table with origins, but for the fields that a table is taken apart into: the rest of it is one function each.
 impl SheetText for Table {
     ghost planned = { Planned };
 

@@ -34,6 +34,7 @@ pub fn part_of(text: &[u8], line: u32) -> Part<'_>
             start: 0,
         };
     }
+    // counted, since the place is what is asked for
     let mut start = 0;
     for number in 1..line {
         match first_line(&text[start..]) {
