@@ -1,4 +1,4 @@
-use Rattle.std.proofs.Common.{◌<◌, length, vec_items, refl, arith}
+use Rattle.std.proofs.Common.{◌≡◌, ◌<◌, length, vec_items, refl, arith}
 use Rattle.buffers.specs.Queues.{SoundQueues}
 use Rattle.buffers.proofs.QueueTable.{queue_taken}
 use Rattle.buffers.proofs.ranked_buffer.RankedBufferSendBuffer.take.Goals as goal
@@ -10,4 +10,5 @@ returns c =
     let l : c.from.result < length qs = omega (arith, c.in_ok-get_mut.ensures.variant.0 refl) in
     let all = λ (sound : SoundQueues qs).
     queue_taken qs c.from.result q c.take.new.self l c.in_ok-get_mut.ensures.value c.take.ensures.places c.take.result sound c.take.ensures.first in
-    rw (← c.from.ensures) (record { effect = λ sound. (all sound).0; sound = λ sound. (all sound).1 })
+    let at : c.from.result ≡ c.args.frame = c.from.ensures in
+    rw (← at) (record { effect = λ sound. (all sound).0; sound = λ sound. (all sound).1 })
