@@ -51,7 +51,8 @@ fn lowest<F: Fn(u16) -> bool>(field: Field, meets: F) -> Option<u16>
         .find(|number| meets(*number))
 }
 
-// Whether a frame has fewer places than its messages need.
+// Whether a frame has fewer places than its messages need. Rows, book and buffer come as three: a plan and a buffer are taken
+// apart for these checks only.
 fn is_short<B: ReleaseBook, S: SendBuffer>(rows: &[Row], book: &B, buffer: &S, frame: u16) -> bool
     ensures { AllListed B.book (B.meaning book.now) rows.now → S.sound buffer.now →
         result ≡ too_few B.book (B.meaning book.now) rows.now (S.meaning buffer.now) frame }

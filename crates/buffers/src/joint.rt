@@ -31,6 +31,7 @@ impl<L: SendBuffer, R: SendBuffer> JointBuffer<L, R> {
     }
 }
 
+// The calls differ in the method that they ask of a side: a closure in its place would be longer than the call.
 impl<L: SendBuffer, R: SendBuffer> SendBuffer for JointBuffer<L, R> {
     ghost meaning = { sides L.meaning R.meaning };
 

@@ -16,6 +16,7 @@ pub(crate) const FRAMES: usize = 2048;
 pub(crate) fn fit(places: &[u16]) -> Result<(), Refusal>
     ensures { MatchResult result (λ _. Fits places.now (length places.now)) (FirstUnfit places.now) }
 {
+    // no try_fold: the search lacks the bound of the sum inside a closure
     let mut total = 0;
     for (before, more) in places.iter().enumerate() {
         let frame = before as u32 + 1;

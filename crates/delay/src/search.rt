@@ -98,6 +98,7 @@ impl<'a, B: ReleaseBook> Search<'a, B> {
         ensures urgent { result.urgent ≡ urgent_load (B.book.count (B.meaning self.now.releases.now)) self.now.rows.now self.now.message.now d.time }
         ensures bound { (result.lower < 2 ^ 106) × (result.urgent < 2 ^ 106) }
     {
+        // one pass: two sums over closures would read the rows twice and need the premise of each row in the closure
         let mut lower: u128 = 0;
         let mut urgent: u128 = 0;
         for row in self.rows {
@@ -128,6 +129,7 @@ impl<'a, B: ReleaseBook> Search<'a, B> {
             ((d : ℕ) → 1 ≤ d → Meets self.now.bus.now (B.book.count (B.meaning self.now.releases.now)) self.now.rows.now self.now.message.now d → limit < d)
             (λ d. Least self.now.bus.now (B.book.count (B.meaning self.now.releases.now)) self.now.rows.now self.now.message.now d × (d ≤ limit)) }
     {
+        // A rule of the project wants a loop that is left with the delay as its value.
         let mut waits: u32 = 1;
         let delay = 'rounds: loop {
             let needed = self.need(Wait { time: waits }) - 1;
