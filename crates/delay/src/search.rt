@@ -98,7 +98,7 @@ impl<'a, B: ReleaseBook> Search<'a, B> {
         ensures urgent { result.urgent ≡ urgent_load (B.book.count (B.meaning self.now.releases.now)) self.now.rows.now self.now.message.now d.time }
         ensures bound { (result.lower < 2 ^ 106) × (result.urgent < 2 ^ 106) }
     {
-        // one pass: two sums over closures would read the rows twice and need the premise of each row in the closure
+        // tried as two sums: that each row is listed did not reach their closures
         let mut lower: u128 = 0;
         let mut urgent: u128 = 0;
         for row in self.rows {
