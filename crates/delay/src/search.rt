@@ -54,10 +54,10 @@ impl<'a, B: ReleaseBook> Search<'a, B> {
         ensures value { result ≡ B.book.count (B.meaning self.now.releases.now) message len }
         ensures bound { result ≤ 16 * (len + 4000000) }
     {
-        match self.releases.count(message, len) {
-            Ok(n) => n,
-            Err(_) => unreachable(),
-        }
+        let Ok(count) = self.releases.count(message, len) else {
+            unreachable()
+        };
+        count
     }
 
     // The time from the first minislot to the earliest start of the message's frame.
@@ -129,7 +129,7 @@ impl<'a, B: ReleaseBook> Search<'a, B> {
             ((d : ℕ) → 1 ≤ d → Meets self.now.bus.now (B.book.count (B.meaning self.now.releases.now)) self.now.rows.now self.now.message.now d → limit < d)
             (λ d. Least self.now.bus.now (B.book.count (B.meaning self.now.releases.now)) self.now.rows.now self.now.message.now d × (d ≤ limit)) }
     {
-        // A rule of the project wants a loop that is left with the delay as its value.
+        // No chain: each round begins where the one before it came to, and the loop is left with the delay as its value.
         let mut waits: u32 = 1;
         let delay = 'rounds: loop {
             let needed = self.need(Wait { time: waits }) - 1;
@@ -161,9 +161,9 @@ pub fn least_delay<B: ReleaseBook>(
         return Err(Place::Plan.refuses(Reason::NotInBook, number.into()));
     }
     let number = u32::from(message.number);
-    let Ok(jitter) = releases.jitter(message.number) else {
-        return Err(Place::Plan.refuses(Reason::NotInBook, number));
-    };
+    let jitter = releases
+        .jitter(message.number)
+        .map_err(|_| Place::Plan.refuses(Reason::NotInBook, number))?;
     let search = Search {
         bus,
         rows,

@@ -38,7 +38,7 @@ pub struct Limits {
     pub high: u64,
 }
 
-// By field, in the order of the enum: one constant table, which all layers consult.
+// By field, in the order of the enum. A match on the field would be one arm for each line here.
 const LIMITS: [Limits; 16] = [
     Limits {
         low: 10,
@@ -92,7 +92,7 @@ const LIMITS: [Limits; 16] = [
 ];
 
 impl Field {
-    // The field's place in the table.
+    // The field's place in the table. With the cast inside the index, it stayed open which limits are read.
     fn place(self) -> usize
         ensures { result ≡ place_of self }
     {

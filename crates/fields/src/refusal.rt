@@ -80,7 +80,7 @@ impl Place {
 }
 
 // A refusal. What it concerns is a line, a message, a node, a frame or a cycle, as the reason and the place have it,
-// and 0 for a figure of the bus.
+// and 0 for a figure of the bus: the number that every text has for it.
 #[derive(Clone, Copy, PartialEq, Eq, Debug)]
 pub struct Refusal {
     pub reason: Reason,

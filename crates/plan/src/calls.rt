@@ -15,7 +15,8 @@ use fields::refusal::{MakingFault, Place, Reason, Refusal};
 use ranked::insert;
 use std::alloc::Global;
 
-// The bus of these figures, where they are in range and its segment ends within the cycle.
+// The bus of these figures, where they are in range and its segment ends within the cycle. They come as four: a struct of them
+// would be a Bus once more, without what holds of it.
 fn bus_of(cycle: u16, offset: u16, minislot: u16, minislots: u16) -> Result<Bus, Refusal>
     ensures { Verdict (bus_checks cycle offset minislot minislots) place.Draft 0 (λ b. IsBus b cycle offset minislot minislots) result }
 {
@@ -129,9 +130,7 @@ impl Draft {
         if self.has_number(message.number) {
             return Err(Reason::NumberUsed);
         }
-        let Some(latest) = self.latest_of(message.node) else {
-            return Err(Reason::NodeUnknown);
-        };
+        let latest = self.latest_of(message.node).ok_or(Reason::NodeUnknown)?;
         if self.has_frame_elsewhere(message) {
             return Err(Reason::FrameOfAnotherNode);
         }

@@ -48,6 +48,7 @@ fn planned<B: ReleaseBook>(draft: Draft, heap: Global, book: B) -> Result<Plan<B
         let fault = MakingFault::Refused(refusal);
         return Err(PlanRefused { draft, book, fault });
     }
+    // a match, since draft and book move into both answers
     match rows_of(heap, &draft.bus, draft.entries.as_slice(), &book) {
         Ok(rows) => Ok(Plan {
             bus: draft.bus,

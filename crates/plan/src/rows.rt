@@ -12,7 +12,8 @@ use delay::search::least_delay;
 use fields::refusal::{MakingFault, Place, Reason, Refusal};
 use std::alloc::Global;
 
-// The number of the first message that the book does not list.
+// The number of the first message that the book does not list. As for the rows of a search, but what each says of an unlisted
+// message differs, and the chain is all that they share.
 pub(crate) fn first_unlisted<B: ReleaseBook>(entries: &[Entry], releases: &B) -> Option<u16>
     ensures { MatchOption result (AllByRecursion (Listed B.book (B.meaning releases.now)) entries.now) (λ n. FirstUnlisted B.book (B.meaning releases.now) entries.now n) }
 {

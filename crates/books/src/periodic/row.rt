@@ -7,7 +7,7 @@ ghost use Rattle.fields.specs.declared.limits.Field.TheVariants.{Period, Jitter,
 pub struct PeriodicRow {
     pub period: u32,
     pub jitter: u32,
-    // the time of the last release
+    // the time of the last release; 0 before the first, as E begins at 0
     pub last: u64,
     // the least nominal time of the next
     pub next: u64,
