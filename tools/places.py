@@ -78,13 +78,15 @@ def twins():
     return sorted(found)
 
 
-# A premise or a bound that three functions or more repeat to the letter.
+# A premise of three functions or more: a `requires` to the letter, or what an `ensures` begins with before its first arrow, by its word.
 def repeated():
     groups = defaultdict(set)
     for f, line, name, head, body in functions():
         for m in re.finditer(r"requires (?:\w+ )?\{(.*?)\}\s*$", head, re.M | re.S):
-            groups[" ".join(m.group(1).split())].add((f, line, name))
-    return sorted((f, line, f"{name} requires {clause[:60]}") for clause, g in groups.items() if len(g) >= 3 for f, line, name in g)
+            groups["requires " + " ".join(m.group(1).split())].add((f, line, name))
+        for m in re.finditer(r"ensures (?:\w+ )?\{ ((?:[^{}()→]|\([^{}()→]*\))*?) →", head):
+            groups["premise " + re.sub(r"^\w+\.", "", m.group(1).split()[0])].add((f, line, name))
+    return sorted((f, line, f"{name}: {clause[:70]}") for clause, g in groups.items() if len(g) >= 3 for f, line, name in g)
 
 
 # Three parameters or more, by name and type, that three functions or more take together.
@@ -105,7 +107,7 @@ def together():
     return sorted((k[0], k[1], f"{k[2]} takes {', '.join(sorted(c))}") for k, c in found.items())
 
 
-show("1a results and options taken apart and put together again", places(r"Ok\([\w()]*\) => Ok\(|Err\(\w+\) => (?:return )?Err\((?!Plan|Bench|Joint)|if let Err\(\w+\) = |return Err\((?:e|fault|malformed)\)|None => None,|^\s+Err\(_\) => Err\("))
+show("1a results and options taken apart and put together again", places(r"Ok\([\w()]*\) => Ok\(|Err\(\w+\) => (?:return )?Err\(|if let Err\(\w+\) = |return Err\((?:e|fault|malformed)\)|None => None,|^\s+Err\(_\) => Err\("))
 show("1b enums of our own", places(r"^pub enum |^enum "))
 show("2 functions with one shape (each but the first)", twins())
 show("2b private functions that differ in a constant", places(r"^(?:pub\(crate\) )?fn refused\("))
@@ -114,7 +116,7 @@ show("3b loops over numbers or with enumerate", places(r"^\s+for [^\n]*(?:\.\.|e
 show("3c loops that return from inside", places(r"^\s+for [^\n]*\{\n\s+if [^\n]*\{\n\s+return "))
 show("4 conversions, orders and names written as functions", places(r"fn (?:eq|cmp|partial_cmp|is_upto|number|name|place|clone)\("))
 show("4b impls of From, TryFrom, Display", places(r"^impl.* (?:From|TryFrom<\w+>|Display|fmt::Display)\b.* for "))
-show("5a premises that three functions repeat", repeated())
+show("5a premises that three functions or more repeat", repeated())
 show("5b parameters that three functions take together", together())
 show("6 a length or a count beside a buffer", places(r"^\s+pub count: usize|^\s+count: usize|^\s+len: usize"))
 show("7 boxed or dynamic values, tables of functions", places(r"\bdyn |\bfn\(|Box<"))
