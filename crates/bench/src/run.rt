@@ -47,7 +47,7 @@ impl<B: ReleaseBook, S: SendBuffer> Bench<B, S> {
         let latest = read(self.starts.as_slice(), at.slot, 0);
         let taken = take_for(&mut self.buffer, &at, latest);
         self.started = Some(start);
-        // A rule of the project wants what the buffer gave taken apart here.
+        // the sent instance is taken apart here, once, for its size and for the report
         let (size, sent) = match taken {
             Some(x) => {
                 let size = read(self.sizes.as_slice(), x.message, 1);

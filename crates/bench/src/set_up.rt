@@ -1,5 +1,5 @@
 // Setting up: a plan and a send buffer become a bench.
-ghost use Rattle.std.specs.Prelude.{◌≡◌, ℕ, ◌^◌, ◌<◌, true, false, map, IfOk, MatchResult};
+ghost use Rattle.std.specs.Prelude.{◌≡◌, ℕ, ◌+◌, ◌^◌, ◌<◌, true, false, map, IfOk, MatchResult};
 ghost use Rattle.std.specs.List.{range_with_len};
 ghost use Rattle.std.specs.Option as options;
 ghost use Rattle.fields.specs.Limits.{Admitted, highest};
@@ -51,38 +51,11 @@ fn lowest<F: Fn(u16) -> bool>(field: Field, meets: F) -> Option<u16>
         .find(|number| meets(*number))
 }
 
-// Whether a frame has fewer places than its messages need. Rows, book and buffer come as three: a plan and a buffer are taken
-// apart for these checks only.
-fn is_short<B: ReleaseBook, S: SendBuffer>(rows: &[Row], book: &B, buffer: &S, frame: u16) -> bool
-    ensures { AllListed B.book (B.meaning book.now) rows.now → S.sound buffer.now →
-        result ≡ too_few B.book (B.meaning book.now) rows.now (S.meaning buffer.now) frame }
-{
-    u128::from(buffer.places_of(frame)) < needs_of(rows, book, frame)
-}
-
 // Whether a message may not be released at once.
 fn is_early<B: ReleaseBook>(book: &B, message: u16) -> bool
     ensures { result ≡ early B.book (B.meaning book.now) message }
 {
     book.earliest(message).is_ok_and(|earliest| earliest > 0)
-}
-
-// Whether rows, book and buffer make a bench, or why they do not.
-fn ready<B: ReleaseBook, S: SendBuffer>(rows: &[Row], book: &B, buffer: &S) -> Result<(), Refusal>
-    ensures { AllListed B.book (B.meaning book.now) rows.now → S.sound buffer.now →
-        MatchResult result (λ _. Ready B.book (B.meaning book.now) rows.now (S.meaning buffer.now))
-        (RefusedAs B.book (B.meaning book.now) rows.now (S.meaning buffer.now)) }
-{
-    if let Some(frame) = lowest(Field::Frame, |frame| is_short(rows, book, buffer, frame)) {
-        return Err(Place::SettingUp.refuses(Reason::TooFewPlaces, u32::from(frame)));
-    }
-    if let Some(frame) = lowest(Field::Frame, |frame| buffer.waiting_for(frame) > 0) {
-        return Err(Place::SettingUp.refuses(Reason::NotFresh, u32::from(frame)));
-    }
-    if let Some(message) = lowest(Field::Message, |message| is_early(book, message)) {
-        return Err(Place::SettingUp.refuses(Reason::NotFresh, u32::from(message)));
-    }
-    Ok(())
 }
 
 // What a slot run looks up.
@@ -94,11 +67,14 @@ struct Tables {
     sizes: Vec<u16>,
 }
 
-// A table with an entry for each number below a length.
-fn table<F: Fn(u16) -> u16>(heap: Global, len: u16, entry: F) -> Result<Vec<u16>, AllocError>
-    requires { F.IsAlwaysCallable entry }
-    ensures { (h : ℕ → ℕ) → ((n m : ℕ) → F.post entry n m → m ≡ h n) → IfOk result (λ v. v.items ≡ map h (range_with_len 0 len)) }
+// A table with an entry for each number up to the highest of a field.
+fn table<F: Fn(u16) -> u16>(heap: Global, field: Field, entry: F) -> Result<Vec<u16>, AllocError>
+    requires callable { F.IsAlwaysCallable entry }
+    requires small { highest field + 1 < 2 ^ 16 }
+    ensures { (h : ℕ → ℕ) → ((n m : ℕ) → F.post entry n m → m ≡ h n) →
+        IfOk result (λ v. v.items ≡ map h (range_with_len 0 (highest field + 1))) }
 {
+    let len = limits_of(field).high as u16 + 1;
     (0..len).map(|number| entry(number)).collect(heap)
 }
 
@@ -106,26 +82,58 @@ fn tables_of(heap: Global, rows: &[Row]) -> Result<Tables, AllocError>
     ensures starts { IfOk result (λ t. t.starts.items ≡ map (last_start_of rows.now) (range_with_len 0 2048)) }
     ensures sizes { IfOk result (λ t. t.sizes.items ≡ map (size_of rows.now) (range_with_len 0 129)) }
 {
-    let starts = table(heap, 2048, |frame| last_start(rows, frame))?;
-    let sizes = table(heap, 129, |message| size_of(rows, message))?;
+    let starts = table(heap, Field::Frame, |frame| last_start(rows, frame))?;
+    let sizes = table(heap, Field::Message, |message| size_of(rows, message))?;
     Ok(Tables { starts, sizes })
 }
 
-// What a slot run looks up, where rows, book and buffer make a bench.
-fn prepared<B: ReleaseBook, S: SendBuffer>(
-    heap: Global,
-    rows: &[Row],
-    book: &B,
-    buffer: &S,
-) -> Result<Tables, MakingFault>
-    ensures why { AllListed B.book (B.meaning book.now) rows.now → S.sound buffer.now →
-        MatchResult result (λ _. Ready B.book (B.meaning book.now) rows.now (S.meaning buffer.now))
-        (FaultOf B.book (B.meaning book.now) rows.now (S.meaning buffer.now)) }
-    ensures starts { IfOk result (λ t. t.starts.items ≡ map (last_start_of rows.now) (range_with_len 0 2048)) }
-    ensures sizes { IfOk result (λ t. t.sizes.items ≡ map (size_of rows.now) (range_with_len 0 129)) }
-{
-    ready(rows, book, buffer)?;
-    Ok(tables_of(heap, rows)?)
+// What a bench is made of, while it is looked whether it can be.
+#[derive(Drop)]
+struct Parts<'a, B: ReleaseBook, S: SendBuffer> {
+    rows: &'a [Row],
+    book: &'a B,
+    buffer: &'a S,
+}
+
+// That the book lists all rows is known of a proper plan only, so it is a premise here and no ghost field.
+impl<'a, B: ReleaseBook, S: SendBuffer> Parts<'a, B, S> {
+    // Whether a frame has fewer places than its messages need.
+    fn is_short(&self, frame: u16) -> bool
+        ensures { AllListed B.book (B.meaning self.now.book.now) self.now.rows.now → S.sound self.now.buffer.now →
+            result ≡ too_few B.book (B.meaning self.now.book.now) self.now.rows.now (S.meaning self.now.buffer.now) frame }
+    {
+        u128::from(self.buffer.places_of(frame)) < needs_of(self.rows, self.book, frame)
+    }
+
+    // Whether they make a bench, or why they do not.
+    fn ready(&self) -> Result<(), Refusal>
+        ensures { AllListed B.book (B.meaning self.now.book.now) self.now.rows.now → S.sound self.now.buffer.now →
+            MatchResult result (λ _. Ready B.book (B.meaning self.now.book.now) self.now.rows.now (S.meaning self.now.buffer.now))
+            (RefusedAs B.book (B.meaning self.now.book.now) self.now.rows.now (S.meaning self.now.buffer.now)) }
+    {
+        if let Some(frame) = lowest(Field::Frame, |frame| self.is_short(frame)) {
+            return Err(Place::SettingUp.refuses(Reason::TooFewPlaces, u32::from(frame)));
+        }
+        if let Some(frame) = lowest(Field::Frame, |frame| self.buffer.waiting_for(frame) > 0) {
+            return Err(Place::SettingUp.refuses(Reason::NotFresh, u32::from(frame)));
+        }
+        if let Some(message) = lowest(Field::Message, |message| is_early(self.book, message)) {
+            return Err(Place::SettingUp.refuses(Reason::NotFresh, u32::from(message)));
+        }
+        Ok(())
+    }
+
+    // What a slot run looks up, where they make a bench.
+    fn prepared(&self, heap: Global) -> Result<Tables, MakingFault>
+        ensures why { AllListed B.book (B.meaning self.now.book.now) self.now.rows.now → S.sound self.now.buffer.now →
+            MatchResult result (λ _. Ready B.book (B.meaning self.now.book.now) self.now.rows.now (S.meaning self.now.buffer.now))
+            (FaultOf B.book (B.meaning self.now.book.now) self.now.rows.now (S.meaning self.now.buffer.now)) }
+        ensures starts { IfOk result (λ t. t.starts.items ≡ map (last_start_of self.now.rows.now) (range_with_len 0 2048)) }
+        ensures sizes { IfOk result (λ t. t.sizes.items ≡ map (size_of self.now.rows.now) (range_with_len 0 129)) }
+    {
+        self.ready()?;
+        Ok(tables_of(heap, self.rows)?)
+    }
 }
 
 // The bench of a plan and a buffer. Refused, they come back as they were.
@@ -137,7 +145,13 @@ pub fn set_up<B: ReleaseBook, S: SendBuffer>(
     ensures { MatchResult result (λ x. BenchOf (kinds B.book B.meaning S.meaning S.sound) plan buffer x)
         (λ e. NoBench (kinds B.book B.meaning S.meaning S.sound) plan buffer e) }
 {
-    let tables = match prepared(heap, plan.sheet(), plan.book(), &buffer) {
+    let wanted = Parts {
+        rows: plan.sheet(),
+        book: plan.book(),
+        buffer: &buffer,
+    };
+    // no map_err: its closure would move plan and buffer, which the rest still needs
+    let tables = match wanted.prepared(heap) {
         Ok(tables) => tables,
         Err(fault) => {
             return Err(BenchRefused {

@@ -1,15 +1,17 @@
 -- What a pool means before and after each call.
-use Rattle.std.specs.Prelude.{◌≡◌, ℕ, ◌+◌, ◌-◌, ◌<◌, ◌≤◌, true, ◌&&◌, List, [], ◌∷◌, ◌++◌, map, length, get_or, sum, Some, Ok, filter, ◌==◌, ◌≢◌, nat_eq, slice_index, slice_index_or, slice_set, refl}
+use Rattle.std.specs.Prelude.{◌≡◌, ℕ, ◌+◌, ◌-◌, ◌<◌, ◌≤◌, true, ◌&&◌, List, [], ◌∷◌, ◌++◌, map, length, get_or, sum, Some, Ok, filter, ◌==◌, ◌≢◌, nat_eq, slice_index, slice_index_or, slice_set, refl, zero, suc, Err}
 use Rattle.std.proofs.Common.{sym, ap, subst, ◌∙◌, inr, ⊎_elim, arith}
 use Rattle.std.specs.List.{remove, AllByRecursion}
 use Rattle.std.proofs.lemmas.List.Elements.{filter-append}
 use Rattle.std.proofs.ByRecursion.{All-append, All-push}
-use Rattle.std.proofs.lemmas.List.{append-nil, get_or-map, get_or_at, get_or_past, get_or-set_same, get_or-set_other, length-map, map-append, map-set}
+use Rattle.std.proofs.lemmas.List.{append-nil, get_or-map, get_or_at, get_or_past, get_or-set_same, get_or-set_other, length-map, map-append, map-set, length-append, nil_from_length}
 use Rattle.std.proofs.lemmas.List.Sums.{get_or-le-sum_by, sum_by-set}
 use Rattle.std.proofs.Math.Seq.{map-set_same}
 use Rattle.std.proofs.lemmas.Bool.{and_parts, cases_lt, cases_eq, cond-true, cond-false, eq-eqb, leb-true, ne_eqb}
-use Rattle.fields.specs.Limits.{admitted, highest}
+use Rattle.fields.specs.Limits.{admitted, highest, Admitted}
 use Rattle.fields.specs.declared.limits.Field.TheVariants.{Frame, Priority}
+use Rattle.fields.specs.declared.refusal.Place.TheVariants as place
+use Rattle.fields.specs.declared.refusal.Reason.TheVariants.{PlacesFull}
 use Rattle.ranked.specs.Ranks.{Placed}
 use Rattle.buffers.specs.Buffer.{Elsewhere, Putting, Taking, upto, sendable}
 use Rattle.buffers.specs.Places.{most_places, places_given, Fits, New}
@@ -17,7 +19,7 @@ use Rattle.buffers.specs.Pooled.{all_places, free_places, arrivals, up_to_priori
 use Rattle.buffers.specs.declared.instance.Instance.{Instance}
 use Rattle.buffers.specs.declared.pool.frame_places.FramePlaces.{FramePlaces}
 use Rattle.buffers.specs.declared.pool.held.Held.{Held}
-use Rattle.buffers.proofs.Calls.{put_done}
+use Rattle.buffers.proofs.Calls.{put_done, put_full}
 use Rattle.buffers.specs.PoolLaws.{all_arrivals}
 use Rattle.buffers.proofs.QueueTable.{read_here}
 use Rattle.buffers.proofs.Classes.{first_read, none_read, placed_last}
@@ -53,6 +55,17 @@ priority_in_range : (x : Instance) → sendable x ≡ true → (1 ≤ x.priority
 priority_in_range x e =
     let p = and_parts _ _ (and_parts _ _ (and_parts _ _ e).1).0 in (leb-true 1 x.priority p.0, leb-true x.priority (highest Priority) p.1)
 
+-- a frame out of range has no places, and nothing waits for it
+pub pool_outside : (places free : List ℕ) (hs : List Held) (f : ℕ) → length places ≡ highest Frame + 1 → SoundPool places free hs → (Admitted Frame f → ⊥)
+    → (slice_index places f ≡ 0) × (pooled hs f ≡ [])
+pool_outside places free hs f size sound out =
+    let none : get_or places f 0 ≡ 0 = no_places f out in
+    (none, nil_from_length (pooled hs f) (let all = sound.counted f in omega arith))
+  where
+    no_places : (k : ℕ) → (Admitted Frame k → ⊥) → slice_index places k ≡ 0
+    no_places zero out = sound.spare
+    no_places (suc k) out = get_or_past places (suc k) 0 (⊎_elim (λ l. absurd (out (omega arith, omega arith))) (λ past. past) (cases_lt (suc k) (length places)))
+
 -- the count after a change at one frame, from what now waits for each
 counted_after : (places free : List ℕ) (f n : ℕ) (old new : ℕ → ℕ) → f < length free → ((k : ℕ) → slice_index free k + old k ≡ slice_index places k)
     → n + new f ≡ slice_index places f → ((k : ℕ) → (k ≢ f) → new k ≡ old k) → (k : ℕ) → slice_index (slice_set free f n) k + new k ≡ slice_index places k
@@ -60,6 +73,10 @@ counted_after places free f n old new l before there same k = ⊎_elim
     (λ e. subst (λ j. slice_index (slice_set free f n) j + new j ≡ slice_index places j) (sym e) (ap (λ a. a + new f) (get_or-set_same free f n 0 l) ∙ there))
     (λ ne. rw (get_or-set_other free f k n 0 ne, same k ne) (before k))
     (cases_eq k f)
+
+-- the next one is held
+pub next_held : (f : ℕ) (hs : List Held) (at : ℕ) → Next f hs at → at < length hs
+next_held f hs at n = omega (arith, ap length n.parts ∙ length-append n.front (n.chosen ∷ n.back))
 
 removed_at : (front : List Held) (h : Held) (back : List Held) → remove (front ++ h ∷ back) (length front) ≡ front ++ back
 removed_at [] h back = refl
@@ -110,6 +127,12 @@ module _ (places free : List ℕ) (hs : List Held) (f : ℕ) (sound : SoundPool 
     pub pool_put : (hs' : List Held) → hs' ≡ hs ++ held ∷ [] → (n : ℕ) → n ≡ slice_index free f → 0 < n
         → Putting (pool_meaning places hs) f x (Ok tt) (pool_meaning places hs') × SoundPool places (slice_set free f (n - 1)) hs'
     pool_put hs' pushed n read some = rw pushed (put_last n read some)
+
+    -- no place is free
+    pub pool_full : (n : ℕ) → n ≡ slice_index free f → n ≡ 0 → Putting (pool_meaning places hs) f x (Err (record { reason = PlacesFull; place = place.Buffer; concerns = f })) (pool_meaning places hs)
+    pool_full n read none =
+        let before = sound.counted f in
+        put_full (pool_meaning places hs) (pool_meaning places hs) f x range (record { places = λ k. refl; waiting = λ k ne. refl }) (omega arith) refl
 
 -- the next one is taken, and its place is free again
 module _ (places free : List ℕ) (f : ℕ) (l : f < length free) (front : List Held) (h : Held) (back : List Held) where

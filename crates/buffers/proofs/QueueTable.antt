@@ -1,12 +1,12 @@
 -- Queues by frame number: those of a new buffer, and one of them changed.
-use Rattle.std.specs.Prelude.{◌≡◌, ℕ, ◌+◌, ◌<◌, true, false, cond, ◌&&◌, List, [], ◌∷◌, map, length, get_or, Some, None, Ok, Err, vec_items, Option, Result, is_ok, ◌==◌, nat_lt, slice_index_or, slice_set, refl}
+use Rattle.std.specs.Prelude.{◌≡◌, ℕ, ◌+◌, ◌<◌, true, false, cond, ◌&&◌, List, [], ◌∷◌, map, length, get_or, Some, None, Ok, Err, vec_items, Option, Result, is_ok, ◌==◌, nat_lt, slice_index_or, slice_set, refl, ◌≤◌, ◌++◌, ◌≢◌}
 use Rattle.std.proofs.Common.{sym, ap, ◌∙◌, inr, ⊎_elim, arith}
 use Rattle.std.specs.Option as options
 use Rattle.std.specs.Result as results
 use Rattle.std.specs.List.{AllByRecursion}
-use Rattle.std.proofs.lemmas.List.{get_or-map, get_or_past, get_or-set_same, get_or-set_other, length-map, map-set}
+use Rattle.std.proofs.lemmas.List.{get_or-map, get_or_past, get_or-set_same, get_or-set_other, length-map, map-set, nil_from_length, get_or_append_left, get_or_push, length_push, map_push}
 use Rattle.std.proofs.lemmas.Bool.{cases_lt, ltb-true, ltb-false, and_parts, eqb-true, eqb-false, eq-eqb, ne_eqb, cond-true, cond-false, cond_both}
-use Rattle.fields.specs.Limits.{admitted, highest}
+use Rattle.fields.specs.Limits.{admitted, highest, Admitted}
 use Rattle.fields.specs.declared.limits.Field.TheVariants.{Frame}
 use Rattle.fields.specs.declared.refusal.Place.TheVariants as place
 use Rattle.fields.specs.declared.refusal.Reason.TheVariants.{PlacesFull}
@@ -20,6 +20,23 @@ use Rattle.buffers.specs.declared.ranked_buffer.queue.FrameQueue.{FrameQueue}
 use Rattle.buffers.proofs.Calls.{put_done, put_full}
 use Rattle.buffers.proofs.Handing.{none_given}
 use Rattle.buffers.proofs.Placing.{placed_all}
+use Rattle.buffers.specs.QueueLaws.{queues_room, none_outside}
+
+past_push : {X : Type 0} (xs : List X) (x d : X) (f : ℕ) → length xs ≤ f → (length xs ≢ f) → slice_index_or (xs ++ x ∷ []) f d ≡ slice_index_or xs f d
+past_push xs x d f past ne = get_or_past (xs ++ x ∷ []) f d (omega (arith, length_push xs x)) ∙ sym (get_or_past xs f d past)
+
+-- one more at the end, seen by a function
+read_push : {Q X : Type 0} (g : Q → X) (d : X) (qs : List Q) (q : Q) (f : ℕ)
+    → slice_index_or (map g (qs ++ q ∷ [])) f d ≡ cond (length qs == f) (g q) (slice_index_or (map g qs) f d)
+read_push g d qs q f =
+    let size : length (map g qs) ≡ length qs = length-map qs g in
+    ap (λ xs. get_or xs f d) (map_push g qs q)
+    ∙ cond_both (length qs == f) (g q) (slice_index_or (map g qs) f d) (λ x. slice_index_or (map g qs ++ g q ∷ []) f d ≡ x)
+    (λ e. get_or_push (map g qs) (g q) d f (size ∙ eqb-true (length qs) f e))
+    (λ e. ⊎_elim
+    (λ l. get_or_append_left (map g qs) (g q ∷ []) d f l)
+    (λ past. past_push (map g qs) (g q) d f past (λ same. eqb-false (length qs) f e (sym size ∙ same)))
+    (cases_lt f (length (map g qs))))
 
 -- one changed, seen by a function
 pub read_set : {Q X : Type 0} (g : Q → X) (d : X) (qs : List Q) (i : ℕ) (q : Q) → i < length qs
@@ -46,6 +63,23 @@ begun given (q ∷ qs) each = record {
       (λ past. get_or_past (map (λ x. vec_items x.list) (q ∷ qs)) f [] (omega (arith, length-map (q ∷ qs) (λ x. vec_items x.list))))
       (cases_lt f (length (q ∷ qs)));
 }
+
+-- one more queue at the end
+pub begun_more : (given : List ℕ) (qs : List FrameQueue) (q : FrameQueue) → Begun given qs → q.places ≡ places_given given (length qs)
+    → vec_items q.list ≡ [] → Begun given (qs ++ q ∷ [])
+begun_more given qs q b here none = record {
+  places = λ f l. read_push (λ x. x.places) 0 qs q f
+      ∙ cond_both (length qs == f) q.places (places_in qs f) (λ n. n ≡ places_given given f)
+      (λ e. here ∙ ap (places_given given) (eqb-true (length qs) f e))
+      (λ e. let ne = eqb-false (length qs) f e in let size = length_push qs q in b.places f (omega arith));
+  nothing = λ f. read_push (λ x. vec_items x.list) [] qs q f
+      ∙ cond_both (length qs == f) (vec_items q.list) (waiting_in qs f) (λ xs. xs ≡ []) (λ _. none) (λ _. b.nothing f);
+}
+
+-- nothing waits for a frame out of range
+pub nothing_outside : (qs : List FrameQueue) (f : ℕ) → length qs ≡ highest Frame + 1 → SoundQueues qs → (Admitted Frame f → ⊥) → waiting_in qs f ≡ []
+nothing_outside qs f size sound out =
+    let none = none_outside qs f size sound out in let room = queues_room qs f in nil_from_length (waiting_in qs f) (omega arith)
 
 -- an element that was read
 pub read_here : {Q X : Type 0} (g : Q → X) (d : X) (qs : List Q) (f : ℕ) (q : Q) → f < length qs → q ≡ slice_index_or qs f q → slice_index_or (map g qs) f d ≡ g q

@@ -8,9 +8,6 @@ use fields::refusal::{Place, Reason, Refusal};
 // The most places that a buffer has in all.
 pub(crate) const MOST: u32 = 256;
 
-// The numbers of a table by frame: those from 0 to the highest frame.
-pub(crate) const FRAMES: usize = 2048;
-
 // Whether no frame is out of range and the places are not too many together. Else the lowest frame is refused where this
 // shows.
 pub(crate) fn fit(places: &[u16]) -> Result<(), Refusal>
@@ -18,8 +15,7 @@ pub(crate) fn fit(places: &[u16]) -> Result<(), Refusal>
 {
     // no try_fold: the search lacks the bound of the sum inside a closure
     let mut total = 0;
-    for (before, more) in places.iter().enumerate() {
-        let frame = before as u32 + 1;
+    for (frame, more) in (1..).zip(places) {
         total += u32::from(*more);
         if !admits(Field::Frame, u64::from(frame)) || total > MOST {
             return Err(Place::Buffer.refuses(Reason::OutOfRange, frame));

@@ -10,7 +10,8 @@ ghost use Rattle.buffers.specs.PoolLaws.{pool_in_range, read_ascends, none_outsi
 
 use crate::buffer::{SendBuffer, in_range};
 use crate::instance::Instance;
-use crate::places::{FRAMES, MOST, fit, given};
+use crate::places::{MOST, fit, given};
+use fields::limits::{Field, limits_of};
 use fields::refusal::{MakingFault, Place, Reason, Refusal};
 use frame_places::FramePlaces;
 use held::{Held, next_for};
@@ -35,7 +36,8 @@ fn frames(heap: Global, places: &[u16]) -> Result<Vec<FramePlaces>, AllocError>
     ensures each { IfOk result (λ v. ((f : ℕ) (d : FramePlaces) → f < highest Frame + 1 →
         slice_index_or v.items f d ≡ record { all = places_given places.now f; free = places_given places.now f })) }
 {
-    (0..FRAMES)
+    let frames = limits_of(Field::Frame).high as usize + 1;
+    (0..frames)
         .map(|frame| {
             let all = given(places, frame);
             FramePlaces { all, free: all }

@@ -10,7 +10,8 @@ ghost use Rattle.std.proofs.Common.{arith};
 
 use crate::buffer::{SendBuffer, in_range};
 use crate::instance::Instance;
-use crate::places::{FRAMES, fit, given};
+use crate::places::{fit, given};
+use fields::limits::{Field, limits_of};
 use fields::refusal::{MakingFault, Place, Reason, Refusal};
 use queue::FrameQueue;
 use std::alloc::{AllocError, Global};
@@ -30,7 +31,8 @@ fn queues(heap: Global, places: &[u16]) -> Result<Vec<FrameQueue>, AllocError>
     ensures each { IfOk result (λ v. ((f : ℕ) (d : FrameQueue) → f < highest Frame + 1 →
         ((slice_index_or v.items f d).places ≡ places_given places.now f) × ((slice_index_or v.items f d).list.items ≡ []))) }
 {
-    (0..FRAMES)
+    let frames = limits_of(Field::Frame).high as usize + 1;
+    (0..frames)
         .map(|frame| FrameQueue::new(heap, given(places, frame)))
         .try_collect(heap)
 }

@@ -48,7 +48,7 @@ impl FrameQueue {
             (λ x. self.old.list.items ≡ x ∷ self.new.list.items) }
         ensures places { self.new.places ≡ self.old.places }
     {
-        // Vec has no call that takes out its first where it has one, and a queue with such a call has no ranked insert.
+        // ranked::insert works on a Vec, and a Vec's remove(0) asks for a first element
         if self.list.is_empty() {
             return None;
         }

@@ -5,5 +5,5 @@ use Rattle.bench.proofs.set_up.table.Goals as goal
 pub returns : goal.returns
 returns g c = λ h says.
     items_from_collect c.collect.result c.collect.ensures.ran
-    (YieldsList-from_map _ h (YieldsList-from_range 0 c.args.len c.args.len c.map.ensures.source (omega arith)) c.map.ensures.closure
+    (YieldsList-from_map _ h (YieldsList-from_range 0 _ _ c.map.ensures.source (omega arith)) c.map.ensures.closure
     (λ x r q k. search (rules, says)))

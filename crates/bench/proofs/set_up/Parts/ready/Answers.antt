@@ -1,6 +1,6 @@
 use Rattle.std.proofs.Common.{refl, rules}
 use Rattle.bench.specs.SetUps.{Unready}
-use Rattle.bench.proofs.set_up.ready.Goals as goal
+use Rattle.bench.proofs.set_up.Parts.ready.Goals as goal
 
 pub returns-in-Some : goal.returns-in-Some
 returns-in-Some g c =
