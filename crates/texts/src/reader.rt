@@ -60,8 +60,7 @@ pub fn note(draft: &mut Draft, line: Line, number: u32) -> Result<(), TableFault
     let noted = match line {
         Line::Bus(_, _, _, _) => return Err(at_line(Reason::Malformed, number)),
         Line::Node(node, latest) => draft.node(node, latest),
-        Line::Periodic(message, _, _) => draft.message(message),
-        Line::Window(message, _, _) => draft.message(message),
+        Line::Periodic(message, _, _) | Line::Window(message, _, _) => draft.message(message),
     };
     noted.map_err(|refusal| at_line(refusal.reason, number))
 }
