@@ -91,15 +91,15 @@ pub fn read<T: TableText>(heap: Global, text: &[u8]) -> Result<T, TableFault>
     let mut table = T::begun(heap, step.line)?;
     let mut phase = step.next;
     rest = bus.rest;
-    let mut number: u32 = 3;
-    // kept: as a `for` over (3..).zip(rest.split_inclusive(..)) in a generic function, antt refuses the check's own step
-    while !rest.is_empty() {
+    for number in 3..=u32::MAX {
+        if rest.is_empty() {
+            break;
+        }
         let cut = first_line(rest).ok_or(at_line(Reason::Malformed, number))?;
         let step = line_of(cut.line, phase, number)?;
         table.add(step.line, number)?;
         phase = step.next;
         rest = cut.rest;
-        number += 1;
     }
     Ok(table)
 }
