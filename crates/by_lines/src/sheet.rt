@@ -20,11 +20,8 @@ use texts::sheet::{SheetText, TableBook, book_of, run_of, sheet_of};
 fn gives_message(line: &Line, number: u32) -> bool
     ensures { result ≡ gives number line.now }
 {
-    match line {
-        Line::Periodic(message, _, _) => u32::from(message.number) == number,
-        Line::Window(message, _, _) => u32::from(message.number) == number,
-        _ => false,
-    }
+    line.message()
+        .is_some_and(|message| u32::from(message.number) == number)
 }
 
 // The place of the line that gives a message.
