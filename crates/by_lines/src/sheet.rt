@@ -20,11 +20,8 @@ use texts::sheet::{SheetText, TableBook, book_of, run_of, sheet_of};
 fn gives_message(line: &Line, number: u32) -> bool
     ensures { result ≡ gives number line.now }
 {
-    match line {
-        Line::Periodic(message, _, _) => u32::from(message.number) == number,
-        Line::Window(message, _, _) => u32::from(message.number) == number,
-        _ => false,
-    }
+    line.message()
+        .is_some_and(|message| u32::from(message.number) == number)
 }
 
 // The place of the line that gives a message.
@@ -42,7 +39,7 @@ fn line_of_message(lines: &[Line], message: u32) -> Option<u32>
     u32::try_from(place.saturating_add(2)).ok()
 }
 
-// A plan's fault, at the line of the message that it concerns.
+// A plan's fault, at the line of the message that it concerns; at line 0, the format's number for no line, where no line gives it.
 fn made_fault(lines: &[Line], fault: MakingFault) -> TableFault
     ensures { length lines.now ≤ longest_text → result ≡ fault_of_making lines.now fault }
 {
@@ -55,6 +52,8 @@ fn made_fault(lines: &[Line], fault: MakingFault) -> TableFault
     }
 }
 
+// The messages of the P lines. Those of the W lines have a type of their own: one function for both would take the method as a
+// closure, and be longer than the chain.
 fn periodic_messages(heap: Global, lines: &[Line]) -> Result<Vec<PeriodicMessage>, AllocError>
     ensures { IfOk result (λ v. v.items ≡ periodic_of lines.now) }
 {

@@ -1,8 +1,8 @@
 // Each case is a table text and what is printed of it.
 use std::process::Abort;
 use std::test::Fail;
-use texts::line::Line;
-use texts::reader::{TableText, bus_draft, read};
+use texts::line::{Line, Phase, line_of};
+use texts::reader::{TableText, bus_draft, note, read};
 use texts::sheet::{SheetText, book_of, run, run_of, sheet, sheet_of};
 use texts::table::Table;
 
@@ -151,5 +151,61 @@ fn first_steps(rt: HostRuntime) -> Result<(), Fail> {
     table.add(Line::Node(1, 20), 3).ok().ok_or("not added")?;
     assert_eq!(rt; table.origins.len(), 0);
     let _book = book_of(rt.alloc(), &[], &[]).ok().ok_or("no book")?;
+    Ok(())
+}
+
+// What a line of a message says.
+fn message_line(bytes: &[u8]) -> Result<Line, Fail> {
+    let step = line_of(bytes, Phase::Messages, 4).ok().ok_or("no line")?;
+    Ok(step.line)
+}
+
+const PERIODIC: &[u8] = b"P 1 1 1 1 5 400 400 0";
+
+const WINDOW: &[u8] = b"W 2 2 1 1 3 700 2 500";
+
+// A node and a message are noted in a draft.
+#[test]
+fn lines_noted(rt: HostRuntime) -> Result<(), Fail> {
+    let bus = Line::Bus(100, 40, 2, 25);
+    let mut draft = bus_draft(rt.alloc(), bus).ok().ok_or("no draft")?;
+    note(&mut draft, Line::Node(1, 20), 3)
+        .ok()
+        .ok_or("no node")?;
+    note(&mut draft, message_line(PERIODIC)?, 4)
+        .ok()
+        .ok_or("no message")?;
+    Ok(())
+}
+
+// A table keeps a message of each kind, and the line that it stands in.
+#[test]
+fn messages_added(rt: HostRuntime) -> Result<(), Fail> {
+    let bus = Line::Bus(100, 40, 2, 25);
+    let mut table = Table::begun(rt.alloc(), bus).ok().ok_or("not begun")?;
+    table.add(Line::Node(1, 20), 3).ok().ok_or("no node")?;
+    table
+        .add(message_line(PERIODIC)?, 4)
+        .ok()
+        .ok_or("no P line")?;
+    table.add(message_line(WINDOW)?, 5).ok().ok_or("no W line")?;
+    assert_eq!(rt; table.periodic.len(), 1);
+    assert_eq!(rt; table.window.len(), 1);
+    assert_eq!(rt; table.origins.len(), 2);
+    for (origin, (message, line)) in table.origins.iter().zip([(1, 4), (2, 5)].iter()) {
+        assert_eq!(rt; origin.message, *message);
+        assert_eq!(rt; origin.line, *line);
+    }
+    Ok(())
+}
+
+// A book of a message of each kind.
+#[test]
+fn a_book(rt: HostRuntime) -> Result<(), Fail> {
+    let periodic = message_line(PERIODIC)?.periodic().ok_or("no P line")?;
+    let window = message_line(WINDOW)?.window().ok_or("no W line")?;
+    let _book = book_of(rt.alloc(), &[periodic], &[window])
+        .ok()
+        .ok_or("no book")?;
     Ok(())
 }

@@ -87,6 +87,13 @@ pub record Figures (k : Kind) (vs : List ℕ) (l : Line) : Type 0 where
 abbrev pub OutOf : Kind → List ℕ → Type 0
 OutOf k vs = all_admitted (fields_of k) vs 0 ≡ false
 
+-- The message of a P or a W line.
+abbrev pub message_of_line : Line → List Message
+message_of_line (line.Bus g s l q) = []
+message_of_line (line.Node n a) = []
+message_of_line (line.Periodic m t j) = m ∷ []
+message_of_line (line.Window m n w) = m ∷ []
+
 -- The message of a P line and of a W line, as a book lists it.
 abbrev pub periodic_of_line : Line → List PeriodicMessage
 periodic_of_line (line.Bus g s l q) = []

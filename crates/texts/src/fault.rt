@@ -14,8 +14,8 @@ pub struct LineFault {
     pub line: u32,
 }
 
-// A table that has no plan: refused at a line, or no memory was left to read it. Each layer has a fault type of its own, a
-// rule of the project, so this is not one enum with the fault of a making.
+// A table that has no plan: refused at a line, or no memory was left to read it.
+// This and the fault of a making are public names of two layers, which `From` joins: one generic fault would be no plainer.
 #[derive(Clone, Copy)]
 pub enum TableFault {
     Refused(LineFault),

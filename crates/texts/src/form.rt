@@ -6,7 +6,7 @@ use crate::digits::first_number;
 use arrayvec::ArrayVec;
 
 // The letter of a line and its numbers, each cut off past every range. No line has more than eight.
-#[derive(Drop)]
+#[derive(Clone, Drop)]
 pub struct Form {
     pub letter: u8,
     pub values: ArrayVec<u64, 8>,

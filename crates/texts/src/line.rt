@@ -2,7 +2,7 @@
 ghost use Rattle.std.specs.Prelude.{◌≡◌, ◌≤◌, true, false, ◌⊎◌, length, IfSome, IfNone, MatchOption, MatchResult, ◌≢◌};
 ghost use Rattle.std.specs.Option.{option_to_list};
 ghost use Rattle.fields.specs.Limits.{admitted};
-ghost use Rattle.texts.specs.Lines.{kind_by, next_phase, Figures, OutOf, LineRead, LineRefused, fields_of, message_fields, values_of_message, all_admitted, firsts, periodic_of_line, window_of_line};
+ghost use Rattle.texts.specs.Lines.{kind_by, next_phase, Figures, OutOf, LineRead, LineRefused, fields_of, message_fields, values_of_message, all_admitted, firsts, message_of_line, periodic_of_line, window_of_line};
 ghost use Rattle.texts.specs.declared.line.Kind.TheVariants as kind;
 
 use crate::fault::LineFault;
@@ -41,7 +41,17 @@ pub enum Line {
 }
 
 impl Line {
-    // The message of a P line, as a book lists it.
+    // The message of a P or a W line.
+    pub fn message(&self) -> Option<Message>
+        ensures { option_to_list result ≡ message_of_line self.now }
+    {
+        match *self {
+            Line::Periodic(message, _, _) | Line::Window(message, _, _) => Some(message),
+            _ => None,
+        }
+    }
+
+    // The message of a P line, as a book lists it. That of a W line has other fields, so the two are one match each.
     pub fn periodic(&self) -> Option<PeriodicMessage>
         ensures { option_to_list result ≡ periodic_of_line self.now }
     {

@@ -1,6 +1,6 @@
 // The faulty line, as a part of the text that holds it.
-ghost use Rattle.std.specs.Prelude.{◌≡◌, ◌≤◌, length, MatchOption};
-ghost use Rattle.texts.specs.Parts.{LineAt, PartOf, FaultyPart, fault_memory};
+ghost use Rattle.std.specs.Prelude.{◌≡◌, MatchOption};
+ghost use Rattle.texts.specs.Parts.{PartOf, FaultyPart, fault_memory};
 
 use crate::cut::first_line;
 use crate::fault::{RunFault, TableFault};
@@ -11,15 +11,6 @@ pub struct Part<'a> {
     pub bytes: &'a [u8],
     pub line: u32,
     pub start: usize,
-}
-
-// The line that begins at a place of the text.
-fn line_at(text: &[u8], start: usize) -> &[u8]
-    requires { start ≤ length text.now }
-    ensures { LineAt text.now start result.now }
-{
-    let rest = &text[start..];
-    first_line(rest).map_or(rest, |cut| cut.line)
 }
 
 // The line of that number. Line 0 is the empty part at the start, a line past the end the empty one at the end.
@@ -34,18 +25,14 @@ pub fn part_of(text: &[u8], line: u32) -> Part<'_>
             start: 0,
         };
     }
-    // counted, since the place is what is asked for
-    let mut start = 0;
+    let mut rest = text;
     for number in 1..line {
-        match first_line(&text[start..]) {
-            Some(cut) => start += cut.line.len() + 1,
-            None => start = text.len(),
-        }
+        rest = first_line(rest).map_or(&[], |cut| cut.rest);
     }
     Part {
-        bytes: line_at(text, start),
+        bytes: first_line(rest).map_or(rest, |cut| cut.line),
         line,
-        start,
+        start: text.len() - rest.len(),
     }
 }
 

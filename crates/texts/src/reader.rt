@@ -60,8 +60,7 @@ pub fn note(draft: &mut Draft, line: Line, number: u32) -> Result<(), TableFault
     let noted = match line {
         Line::Bus(_, _, _, _) => return Err(at_line(Reason::Malformed, number)),
         Line::Node(node, latest) => draft.node(node, latest),
-        Line::Periodic(message, _, _) => draft.message(message),
-        Line::Window(message, _, _) => draft.message(message),
+        Line::Periodic(message, _, _) | Line::Window(message, _, _) => draft.message(message),
     };
     noted.map_err(|refusal| at_line(refusal.reason, number))
 }
@@ -92,15 +91,15 @@ pub fn read<T: TableText>(heap: Global, text: &[u8]) -> Result<T, TableFault>
     let mut table = T::begun(heap, step.line)?;
     let mut phase = step.next;
     rest = bus.rest;
-    let mut number: u32 = 3;
-    // kept: as a `for` over (3..).zip(rest.split_inclusive(..)) in a generic function, antt refuses the check's own step
-    while !rest.is_empty() {
+    for number in 3..=u32::MAX {
+        if rest.is_empty() {
+            break;
+        }
         let cut = first_line(rest).ok_or(at_line(Reason::Malformed, number))?;
         let step = line_of(cut.line, phase, number)?;
         table.add(step.line, number)?;
         phase = step.next;
         rest = cut.rest;
-        number += 1;
     }
     Ok(table)
 }

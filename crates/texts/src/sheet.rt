@@ -31,7 +31,8 @@ fn origin_of(origins: &[Origin], message: u32) -> Option<&Origin>
         .find(|origin| u32::from(origin.message) == message)
 }
 
-// A refusal that concerns a message, at that message's line; at line 0 where the table has no such message.
+// A refusal that concerns a message, at that message's line; at line 0, the format's number for no line, where the table has
+// no such message.
 fn at_message(origins: &[Origin], refusal: Refusal) -> TableFault
     ensures { result ≡ fault_at_message origins.now refusal }
 {
@@ -41,6 +42,8 @@ fn at_message(origins: &[Origin], refusal: Refusal) -> TableFault
     })
 }
 
+// A plan's fault. A table of lines has one of its own: what differs is where a message's line is looked up, and the call is all
+// that a method for that would leave here.
 fn made_fault(origins: &[Origin], fault: MakingFault) -> TableFault
     ensures { result ≡ fault_of_making origins.now fault }
 {
@@ -108,7 +111,8 @@ fn row_text(heap: Global, row: &Row) -> Result<String, AllocError>
     format!(in heap; "{number} {frame} {delay} {response}\n")
 }
 
-// The text of a sheet: its mark, then a line for each row.
+// The text of a sheet: its mark, then a line for each row. A `for`, since a row's text needs memory, and a closure that makes
+// it could fail.
 pub fn text_of(heap: Global, rows: &[Row]) -> Result<String, AllocError>
     ensures { IfOk result (λ s. string_bytes s ≡ text_of_sheet rows.now) }
 {
@@ -142,11 +146,10 @@ pub fn run_of<T: SheetText>(heap: Global, text: &[u8]) -> Result<String, RunFaul
 pub fn sheet_of<T: SheetText>(heap: Global, text: &[u8]) -> Result<String, AllocError>
     ensures { IfOk result (λ s. PrintedOfRead T.begins T.adds T.checks T.planned T.unplanned text.now (string_bytes s)) }
 {
-    match run_of::<T>(heap, text) {
-        Ok(text) => Ok(text),
-        Err(RunFault::Table(TableFault::Memory)) => Err(AllocError),
-        Err(RunFault::Table(TableFault::Refused(fault))) => fault_text(heap, fault),
-    }
+    run_of::<T>(heap, text).or_else(|fault| match fault {
+        RunFault::Table(TableFault::Memory) => Err(AllocError),
+        RunFault::Table(TableFault::Refused(fault)) => fault_text(heap, fault),
+    })
 }
 
 // The sheet of a table text, or the fault that it has none for.

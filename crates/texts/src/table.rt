@@ -23,7 +23,7 @@ pub struct Table {
     pub draft: Draft,
     pub periodic: Vec<PeriodicMessage>,
     pub window: Vec<WindowMessage>,
-    // kept: a line's definition appends its message here, so a map would have to say the order beside
+    // no map: a line's definition appends its message here, so a map would have to say the order beside
     pub origins: Vec<Origin>,
 }
 
@@ -45,18 +45,16 @@ impl TableText for Table {
 
     fn add(&mut self, line: Line, number: u32) -> Result<(), TableFault> {
         note(&mut self.draft, line, number)?;
-        if let Some(message) = line.periodic() {
+        if let Some(message) = line.message() {
             self.origins.push(Origin {
                 message: message.number,
                 line: number,
             })?;
+        }
+        if let Some(message) = line.periodic() {
             self.periodic.push(message)?;
         }
         if let Some(message) = line.window() {
-            self.origins.push(Origin {
-                message: message.number,
-                line: number,
-            })?;
             self.window.push(message)?;
         }
         Ok(())

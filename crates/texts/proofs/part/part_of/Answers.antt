@@ -1,25 +1,14 @@
-use Rattle.std.proofs.Common.{drop, sym, ◌∙◌, arith}
-use Rattle.std.proofs.lemmas.List.{take_rest, length-drop}
-use Rattle.texts.specs.Parts.{first, next, last}
-use Rattle.texts.specs.Readers.{OneLine}
+use Rattle.std.proofs.Common.{◌≡◌, [], MatchOption, refl, rules}
+use Rattle.texts.specs.Parts.{first}
+use Rattle.texts.proofs.Starting.{rest_after}
 use Rattle.texts.proofs.part.part_of.Goals as goal
-use Rattle.texts.proofs.part.part_of.Goals.{in-Some, in-None}
 
 pub loop-number-init : goal.loop-number-init
-loop-number-init c = (omega arith, first)
+loop-number-init c = ([], refl, first)
 
 pub loop-number-preserved : goal.loop-number-preserved
 loop-number-preserved c =
-    let text = c.args.text.now in
-    let s = c.loop-number.start in
-    let whole = take_rest text s in
-    elim c.match-first_line.branch [
-      | in-Some w ↦
-          let cut = w.in-Some.ensures in (
-            omega (arith, w.start-is, rw whole at cut.shorter, length-drop s text),
-            rw w.start-is (next c.loop-number.number s w.in-Some.cut.line.now w.in-Some.cut.rest.now c.loop-number.invariant.1 (sym whole ∙ cut.whole) cut.first),
-          )
-      | in-None w ↦
-          let one : OneLine (drop s text) = rw whole at w.in-None.ensures.none in
-          (omega (arith, w.start-is), rw w.start-is (last c.loop-number.number s c.loop-number.invariant.1 one))
-    ]
+    let read : MatchOption c.first_line.result (c.map_or-rest.result.now ≡ []) (λ r. c.map_or-rest.result.now ≡ r.rest.now) = search rules in
+    let cut = c.first_line.ensures in
+    rest_after (λ r. r.line.now) (λ r. r.rest.now) c.args.text.now c.loop-number.rest.now c.map_or-rest.result.now c.loop-number.number
+    c.first_line.result read cut.whole cut.first cut.none c.loop-number.invariant

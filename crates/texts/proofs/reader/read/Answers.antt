@@ -1,14 +1,14 @@
 use Rattle.std.proofs.Common.{◌≡◌, ◌<◌, ◌∷◌, ◌++◌, length, Err, sym, ap, arith, rules}
-use Rattle.std.proofs.lemmas.List.{nil_from_length, length-append}
+use Rattle.std.proofs.lemmas.List.{length-append}
 use Rattle.std.proofs.lemmas.Result.{err_from_is_err_and}
-use Rattle.std.proofs.lemmas.Bool.{eqb-true, eqb-false}
+use Rattle.std.proofs.lemmas.Bool.{eqb-false}
 use Rattle.fields.specs.declared.refusal.Reason.TheVariants.{Malformed}
 use Rattle.texts.specs.declared.fault.TableFault.TheVariants.{Refused}
 use Rattle.texts.specs.Readers.{OneLine, bus_line, next_line, unmarked, no_bus_line, bus_refused, bus_unchecked, no_line_feed, line_refused, line_unchecked}
 use Rattle.texts.proofs.reader.read.Goals as goal
 
-pub loop-rest-init : goal.loop-rest-init
-loop-rest-init g c =
+pub loop-number-init : goal.loop-number-init
+loop-number-init g c =
     let m = c.in_ok-rest.ensures in
     let whole : c.in_ok-rest.rest.now ≡ c.in_ok-bus.bus.line.now ++ 10 ∷ c.in_ok-bus.bus.rest.now = search rules in
     let first : OneLine c.in_ok-bus.bus.line.now = search rules in (
@@ -17,20 +17,15 @@ loop-rest-init g c =
           (rw whole at m) first c.in_ok-step.ensures c.in_ok-table.ensures,
     )
 
-pub loop-rest-preserved : goal.loop-rest-preserved
-loop-rest-preserved g c =
-    let whole : c.loop-rest.rest.now ≡ c.in_ok-cut.cut.line.now ++ 10 ∷ c.in_ok-cut.cut.rest.now = search rules in
+pub loop-number-preserved : goal.loop-number-preserved
+loop-number-preserved g c =
+    let whole : c.loop-number.rest.now ≡ c.in_ok-cut.cut.line.now ++ 10 ∷ c.in_ok-cut.cut.rest.now = search rules in
     let first : OneLine c.in_ok-cut.cut.line.now = search rules in (
       omega (arith, ap length whole, length-append c.in_ok-cut.cut.line.now (10 ∷ c.in_ok-cut.cut.rest.now)),
-      next_line c.loop-rest.number c.loop-rest.phase c.loop-rest.table c.in_ok-cut.cut.line.now c.in_ok-cut.cut.rest.now
-          c.loop-rest.rest.now c.in_ok-step-2.step c.add.new.self c.loop-rest.invariant.1 whole first c.in_ok-step-2.ensures
+      next_line c.loop-number.number c.loop-number.phase c.loop-number.table c.in_ok-cut.cut.line.now c.in_ok-cut.cut.rest.now
+          c.loop-number.rest.now c.in_ok-step-2.step c.add.new.self c.loop-number.invariant.1 whole first c.in_ok-step-2.ensures
           c.in_ok-add.ensures,
     )
-
-pub returns : goal.returns
-returns g c =
-    let none = nil_from_length c.loop-rest.rest.now (eqb-true _ 0 (sym c.loop-rest-test.ensures)) in
-    record { lines = c.loop-rest.number; phase = c.loop-rest.phase; read = rw none at c.loop-rest.invariant.1 }
 
 pub returns-in_err-rest : goal.returns-in_err-rest
 returns-in_err-rest g c =
@@ -61,25 +56,25 @@ returns-in_err-table g c =
 
 pub returns-in_err-cut : goal.returns-in_err-cut
 returns-in_err-cut g c =
-    let gives : c.from_residual-in_err-cut.result ≡ Err (Refused (record { reason = Malformed; line = c.loop-rest.number })) = search rules in
-    let none : OneLine c.loop-rest.rest.now = search rules in
-    let some : 0 < length c.loop-rest.rest.now = omega (arith, eqb-false (length c.loop-rest.rest.now) 0 (sym c.loop-rest-test.ensures)) in
-    rw gives (no_line_feed c.loop-rest.number c.loop-rest.phase c.loop-rest.table c.loop-rest.rest.now c.loop-rest.invariant.1 some none)
+    let gives : c.from_residual-in_err-cut.result ≡ Err (Refused (record { reason = Malformed; line = c.loop-number.number })) = search rules in
+    let none : OneLine c.loop-number.rest.now = search rules in
+    let some : 0 < length c.loop-number.rest.now = omega (arith, eqb-false (length c.loop-number.rest.now) 0 (sym c.if-is_empty.ensures)) in
+    rw gives (no_line_feed c.loop-number.number c.loop-number.phase c.loop-number.table c.loop-number.rest.now c.loop-number.invariant.1 some none)
 
 pub returns-in_err-step-2 : goal.returns-in_err-step-2
 returns-in_err-step-2 g c =
     let p = err_from_is_err_and c.from_residual-in_err-step-2.result c.from_residual-in_err-step-2.ensures.1 in
-    let whole : c.loop-rest.rest.now ≡ c.in_ok-cut.cut.line.now ++ 10 ∷ c.in_ok-cut.cut.rest.now = search rules in
+    let whole : c.loop-number.rest.now ≡ c.in_ok-cut.cut.line.now ++ 10 ∷ c.in_ok-cut.cut.rest.now = search rules in
     let first : OneLine c.in_ok-cut.cut.line.now = search rules in
-    rw (p.1, p.2) (line_refused c.loop-rest.number c.loop-rest.phase c.loop-rest.table c.in_ok-cut.cut.line.now
-    c.in_ok-cut.cut.rest.now c.loop-rest.rest.now c.in_err-step-2.field-0.0 c.loop-rest.invariant.1 whole first
+    rw (p.1, p.2) (line_refused c.loop-number.number c.loop-number.phase c.loop-number.table c.in_ok-cut.cut.line.now
+    c.in_ok-cut.cut.rest.now c.loop-number.rest.now c.in_err-step-2.field-0.0 c.loop-number.invariant.1 whole first
     c.in_err-step-2.ensures)
 
 pub returns-in_err-add : goal.returns-in_err-add
 returns-in_err-add g c =
     let p = err_from_is_err_and c.from_residual-in_err-add.result c.from_residual-in_err-add.ensures.1 in
-    let whole : c.loop-rest.rest.now ≡ c.in_ok-cut.cut.line.now ++ 10 ∷ c.in_ok-cut.cut.rest.now = search rules in
+    let whole : c.loop-number.rest.now ≡ c.in_ok-cut.cut.line.now ++ 10 ∷ c.in_ok-cut.cut.rest.now = search rules in
     let first : OneLine c.in_ok-cut.cut.line.now = search rules in
-    rw (p.1, p.2) (line_unchecked c.loop-rest.number c.loop-rest.phase c.loop-rest.table c.in_ok-cut.cut.line.now
-    c.in_ok-cut.cut.rest.now c.loop-rest.rest.now c.in_ok-step-2.step c.in_err-add.field-0.0 c.loop-rest.invariant.1
+    rw (p.1, p.2) (line_unchecked c.loop-number.number c.loop-number.phase c.loop-number.table c.in_ok-cut.cut.line.now
+    c.in_ok-cut.cut.rest.now c.loop-number.rest.now c.in_ok-step-2.step c.in_err-add.field-0.0 c.loop-number.invariant.1
     whole first c.in_ok-step-2.ensures c.in_err-add.ensures)
