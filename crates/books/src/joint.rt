@@ -24,7 +24,8 @@ pub struct JointRefused<L, R> {
     pub refusal: Refusal,
 }
 
-// The lowest message that both list.
+// The lowest message that both list. The bench has such searches too: one for both crates would be a public call that asks its
+// caller for a closure, and no public call here asks anything.
 fn shared<L: ReleaseBook, R: ReleaseBook>(left: &L, right: &R) -> Option<u16>
     ensures { Sharing L.book R.book (L.meaning left.now) (R.meaning right.now) result }
 {
