@@ -24,7 +24,7 @@ fn printed_line(heap: Global, letter: &str, values: &[u64]) -> Result<String, Al
     ensures { IfOk result (λ s. string_bytes s ≡ letter.now ++ fields values.now (10 ∷ [])) }
 {
     let mut text = String::from_str(heap, letter)?;
-    // one number at a time: of one format of more than four numbers the search does not find what it prints
+    // one number at a time: what one format of more than four numbers prints could not be proved
     for value in values {
         let field = field_text(heap, *value)?;
         text.push_str(field.as_str())?;
@@ -64,7 +64,7 @@ fn line_text(heap: Global, line: &Line) -> Result<String, AllocError>
 }
 
 // The text of a table: its mark, then its lines. No table of other lines has this text.
-// A `for`, as a sheet's text has: the two differ in an element's text, which needs memory, so a closure for it could fail.
+// As the text of a sheet, from which it differs in the text of an element.
 pub fn print_table(heap: Global, table: &Table) -> Result<String, AllocError>
     ensures { IfOk result (λ s. OnlyTable (lines_of table.now) (string_bytes s)) }
 {

@@ -87,7 +87,7 @@ fn tables_of(heap: Global, rows: &[Row]) -> Result<Tables, AllocError>
     Ok(Tables { starts, sizes })
 }
 
-// What a bench is made of, while it is looked whether it can be.
+// What a bench is to be made of, while that is checked.
 #[derive(Drop)]
 struct Parts<'a, B: ReleaseBook, S: SendBuffer> {
     rows: &'a [Row],

@@ -128,6 +128,7 @@ impl<R: MessageRow> RowBook<R> {
     }
 }
 
+// The questions differ in the method that they ask of a row: a closure in its place would be longer than the call.
 impl<R: MessageRow> ReleaseBook for RowBook<R> {
     ghost book = { row_book R.kind };
 

@@ -15,8 +15,8 @@ pub trait SendBuffer {
     // the places of each frame, and what waits for it, in sending order
     ghost meaning: { Self → Meaning };
 
-    // whether the value is one that a making and calls can lead to: all that is said here is said of sound buffers
-    // no invariant of a type: a layer on top says by it when its own figures agree with the lists, and a call is safe without
+    // whether the value is one that a making and calls can lead to: all that is said here is said of sound buffers. It is no
+    // invariant of a type: a layer on top says by it when its own figures agree with the lists, and a call is safe without it
     ghost sound: { Self → Type 0 };
 
     // One more instance for the frame: behind all of equal or smaller priority number, and before the rest. Where a value is

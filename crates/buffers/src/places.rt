@@ -13,7 +13,7 @@ pub(crate) const MOST: u32 = 256;
 pub(crate) fn fit(places: &[u16]) -> Result<(), Refusal>
     ensures { MatchResult result (λ _. Fits places.now (length places.now)) (FirstUnfit places.now) }
 {
-    // no try_fold: the search lacks the bound of the sum inside a closure
+    // a try_fold is no plainer: its closure would have to be told once more that the sum fits
     let mut total = 0;
     for (frame, more) in (1..).zip(places) {
         total += u32::from(*more);

@@ -48,6 +48,7 @@ impl RankedBuffer {
     }
 }
 
+// The calls differ in the method that they ask of a queue: a closure in its place would be longer than the call.
 impl SendBuffer for RankedBuffer {
     ghost meaning = { λ b. meaning_of b.queues.items };
 

@@ -66,7 +66,7 @@ fn window_messages(heap: Global, lines: &[Line]) -> Result<Vec<WindowMessage>, A
     lines.iter().flat_map(Line::window).collect(heap)
 }
 
-// As that of a table with origins, but for the fields that a table is taken apart into: the rest of it is one function each.
+// The same steps as for a table with origins, over other fields: what both share is the making of the book and of the plan.
 impl SheetText for Table {
     ghost planned = { Planned };
 

@@ -12,7 +12,7 @@ use crate::entry::{Entry, Row};
 use books::book::ReleaseBook;
 use fields::refusal::{Place, Reason, Refusal};
 
-// The first row's message that the book does not list. Entries of a draft are searched alike, by a chain of their own.
+// The first row's message that the book does not list. Entries of a draft are searched alike: the chain is all that both share.
 fn unlisted<B: ReleaseBook>(rows: &[Row], releases: &B) -> Option<u16>
     ensures { MatchOption result (AllByRecursion (ListedRow (B.book.lists (B.meaning releases.now))) rows.now) (λ m. (B.book.lists (B.meaning releases.now) m ≡ false) × (AllByRecursion (ListedRow (B.book.lists (B.meaning releases.now))) rows.now → ⊥)) }
 {

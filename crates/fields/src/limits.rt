@@ -92,7 +92,7 @@ const LIMITS: [Limits; 16] = [
 ];
 
 impl Field {
-    // The field's place in the table. With the cast inside the index, it stayed open which limits are read.
+    // The field's place in the table. With the cast inside the index it could not be proved which limits are read.
     fn place(self) -> usize
         ensures { result ≡ place_of self }
     {

@@ -62,6 +62,8 @@ impl Draft {
         ensures { Made (bus_checks cycle offset minislot minislots) place.Draft 0 (λ d. Begun d cycle offset minislot minislots) result }
     {
         let bus = bus_of(cycle, offset, minislot, minislots)?;
+        // up to the highest node, and the most messages: literals, since an array has a length that is written, and a draft's
+        // ghost fields tie both
         let nodes = Vec::from_slice(heap, &[None; 65])?;
         let entries = Vec::with_capacity(heap, 128)?;
         Ok(Draft {

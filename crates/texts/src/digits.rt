@@ -20,7 +20,7 @@ fn value_of(digits: &[u8]) -> u64
     requires { AllByRecursion (λ b. is_ascii_digit b ≡ true) digits.now }
     ensures { result ≡ cut (digits_value 10 digits.now) }
 {
-    // tried as a `fold`: that its closure can be called at each turn, with a product that fits, stayed open, and so did its result
+    // tried as a `fold`: neither that its closure can be called at each turn, nor what it gives, could be proved
     let mut value: u64 = 0;
     for digit in digits {
         value = (value * 10 + u64::from(*digit - b'0')).min(CAP);

@@ -72,6 +72,7 @@ fn after_mark(text: &[u8]) -> Result<&[u8], LineFault>
     if text.len() > LONGEST {
         return Err(LineFault {
             reason: Reason::TextTooLong,
+            // the number that the format has for the whole text
             line: 0,
         });
     }

@@ -111,8 +111,8 @@ fn row_text(heap: Global, row: &Row) -> Result<String, AllocError>
     format!(in heap; "{number} {frame} {delay} {response}\n")
 }
 
-// The text of a sheet: its mark, then a line for each row. A `for`, since a row's text needs memory, and a closure that makes
-// it could fail.
+// The text of a sheet: its mark, then a line for each row. A `for`: a chain would
+// collect a text for each row first.
 pub fn text_of(heap: Global, rows: &[Row]) -> Result<String, AllocError>
     ensures { IfOk result (λ s. string_bytes s ≡ text_of_sheet rows.now) }
 {

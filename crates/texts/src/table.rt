@@ -23,7 +23,7 @@ pub struct Table {
     pub draft: Draft,
     pub periodic: Vec<PeriodicMessage>,
     pub window: Vec<WindowMessage>,
-    // no map: a line's definition appends its message here, so a map would have to say the order beside
+    // no map: a line's definition appends its message here, so a map would have to keep the order besides
     pub origins: Vec<Origin>,
 }
 

@@ -9,7 +9,7 @@ pub struct PeriodicRow {
     pub jitter: u32,
     // the time of the last release; 0 before the first, as E begins at 0
     pub last: u64,
-    // the least nominal time of the next
+    // the least nominal time of the next, which is 0 at first
     pub next: u64,
     // all are in range, so that sums of them fit
     ghost figures: { Admitted Period period × Admitted Jitter jitter × Admitted Time last },

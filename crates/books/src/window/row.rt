@@ -11,7 +11,7 @@ pub struct WindowRow {
     // the time of the last release; 0 before the first, as E begins at 0
     pub last: u64,
     // when the windows end that the last sixteen releases began, newest first: 0 where there was none, which is what E takes
-    // then, so that an Option would be turned into 0 where it is read
+    // then, so an Option would only be turned into 0 where it is read
     pub ends: [u64; 16],
     // all are in range, so that sums of them fit
     ghost figures: { Admitted Releases releases × Admitted Window window × Admitted Time last },
