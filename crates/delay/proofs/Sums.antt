@@ -1,7 +1,6 @@
 -- Sums over lists.
-use Rattle.std.proofs.Common.{◌≡◌, ℕ, zero, suc, ◌+◌, ◌*◌, ◌/◌, ◌^◌, ◌<◌, ◌≤◌, List, [], ◌∷◌, length, get_or, take, sym, ap, subst, le_of_suc-le-suc, not-suc-le-zero, div-le_self, add-one, arith}
+use Rattle.std.proofs.Common.{◌≡◌, ℕ, zero, suc, ◌+◌, ◌<◌, ◌≤◌, List, [], ◌∷◌, length, get_or, take, sym, ap, subst, le_of_suc-le-suc, not-suc-le-zero, add-one, arith}
 use Rattle.std.specs.List.{AllByRecursion}
-use Rattle.std.proofs.lemmas.Nat.{mul-le}
 use Rattle.std.proofs.ByRecursion.{All-get_or}
 use Rattle.delay.specs.Delay.{total}
 
@@ -23,12 +22,6 @@ total_grows f g h (x ∷ xs) = omega (arith, h x, total_grows f g h xs)
 pub total_step : {X : Type 0} (f : X → ℕ) (xs : List X) (i : ℕ) (x : X) (sum n m : ℕ) → i < length xs → x ≡ get_or xs i x
     → sum ≡ total f (take i xs) → n ≡ m → m ≡ f x → sum + n ≡ total f (take (i + 1) xs)
 total_step f xs i x sum n m h e s t u = omega (arith, total_more f xs i x h, ap f e)
-
--- The time of the blocked cycles fits 128 bits with room to spare.
-pub blocked_bound : (load k urgent own cycle : ℕ) → load < 2 ^ 106 → urgent < 2 ^ 106 → own < 2 ^ 32 → cycle ≤ 16000
-    → (load / k + urgent + own + 1) * cycle ≤ 2 ^ 108 * 16000
-blocked_bound load k urgent own cycle a b c d =
-    mul-le (load / k + urgent + own + 1) cycle (2 ^ 108) 16000 (omega (arith, div-le_self load k)) d
 
 -- What holds of every element holds of one that is read.
 pub all_read : {X : Type 0} (P : X → Type 0) (xs : List X) (i : ℕ) (x : X) → i < length xs → x ≡ get_or xs i x → AllByRecursion P xs → P x

@@ -1,10 +1,8 @@
 -- Tests over lists, one element at a time.
-use Rattle.std.proofs.Common.{◌≡◌, ℕ, zero, suc, ◌+◌, ◌<◌, Bool, true, leb, List, [], ◌∷◌, ◌++◌, length, get_or, take, drop, set, IfSome, Some, None, Option, refl, le_of_suc-le-suc, not-suc-le-zero}
+use Rattle.std.proofs.Common.{◌≡◌, ℕ, zero, suc, ◌+◌, ◌<◌, Bool, true, List, [], ◌∷◌, ◌++◌, length, get_or, take, drop, set, refl, le_of_suc-le-suc, not-suc-le-zero}
 use Rattle.std.proofs.lemmas.List.{drop_more, take-append-drop}
-use Rattle.std.proofs.lemmas.Bool.{and_parts, and_from, leb-true}
-use Rattle.fields.specs.Limits.{Admitted}
-use Rattle.fields.specs.declared.limits.Field.TheVariants.{LastStart}
-use Rattle.plan.specs.Entries.{every, is_start_in_range}
+use Rattle.std.proofs.lemmas.Bool.{and_parts, and_from}
+use Rattle.plan.specs.Entries.{every}
 
 -- A test that every element passes, after a write.
 pub every_set : {X : Type 0} (p : X → Bool) (xs : List X) (i : ℕ) (x : X) → every p xs ≡ true → p x ≡ true → every p (set xs i x) ≡ true
@@ -18,11 +16,6 @@ pub every_get_d : {X : Type 0} (p : X → Bool) (xs : List X) (i : ℕ) (d : X) 
 every_get_d p [] i d h all = absurd (not-suc-le-zero h)
 every_get_d p (x ∷ xs) zero d h all = (and_parts (p x) (every p xs) all).0
 every_get_d p (x ∷ xs) (suc i) d h all = every_get_d p xs i d (le_of_suc-le-suc h) (and_parts (p x) (every p xs) all).1
-
--- What the test of a last start says.
-pub start_fits : (o : Option ℕ) → is_start_in_range o ≡ true → IfSome o (λ a. Admitted LastStart a)
-start_fits None h = tt
-start_fits (Some a) h = let p = and_parts (leb 1 a) (leb a 7994) h in (leb-true 1 a p.0, leb-true a 7994 p.1)
 
 -- A list around an element that is read.
 pub split_read : {X : Type 0} (xs : List X) (i : ℕ) (x : X) → i < length xs → x ≡ get_or xs i x → xs ≡ take i xs ++ x ∷ drop (i + 1) xs

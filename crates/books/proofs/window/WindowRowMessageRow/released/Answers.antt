@@ -1,19 +1,7 @@
 use Rattle.std.proofs.Common.{◌≡◌, ℕ, ◌+◌, List, length, ap, arith}
 use Rattle.books.specs.Window.{Span}
 use Rattle.books.proofs.Places.{ends_pushed}
-use Rattle.books.specs.WindowLaws.{pushed_below}
 use Rattle.books.proofs.window.WindowRowMessageRow.released.Goals as goal
-
-pub invariant_of-result : goal.invariant_of-result
-invariant_of-result c =
-    let x = c.args.self in
-    let v = c.args.time + x.window in
-    let sixteen : length x.ends ≡ 16 = omega arith in
-    let ends = ends_pushed x.ends c.rotate_right.new.self v sixteen c.rotate_right.ensures.after in
-    record {
-      figures = (x.figures.0, x.figures.1, c.requires.0);
-      near = λ k. rw (c.from.ensures, ends) (pushed_below 15 v x.ends v (omega arith) (λ j. let n = x.near j in omega arith) k);
-    }
 
 pub returns : goal.returns
 returns c =

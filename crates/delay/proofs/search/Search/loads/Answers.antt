@@ -1,6 +1,6 @@
 use Rattle.std.proofs.Common.{ap, ◌∙◌, arith, take_all}
-use Rattle.delay.specs.Delay.{total, lower_load, urgent_load, share_of_lower, share_of_urgent, ListedRow}
-use Rattle.delay.proofs.Sums.{total_step, all_read}
+use Rattle.delay.specs.Delay.{total, lower_load, urgent_load, share_of_lower, share_of_urgent}
+use Rattle.delay.proofs.Sums.{total_step}
 use Rattle.delay.proofs.search.Search.loads.Goals as goal
 
 pub loop-row-preserved : goal.loop-row-preserved
@@ -27,18 +27,4 @@ returns g c =
       lower = c.loop-row.invariant.1 ∙ ap (total (share_of_lower c.args.self.now.bus.now count c.args.self.now.message.now c.args.d.time)) all;
       urgent = c.loop-row.invariant.2 ∙ ap (total (share_of_urgent count c.args.self.now.message.now c.args.d.time)) all;
       bound = (omega arith, omega arith);
-    }
-
-pub lower_share-requires : goal.lower_share-requires
-lower_share-requires g c =
-    let lists = g.B.ReleaseBook.book.lists (g.B.ReleaseBook.meaning c.args.self.now.releases.now) in
-    record {
-      listed = all_read (ListedRow lists) c.args.self.now.rows.now c.loop-row.row-index c.row-item.result c.loop-row-test.true c.row-item.is c.args.self.now.listed;
-    }
-
-pub urgent_share-requires : goal.urgent_share-requires
-urgent_share-requires g c =
-    let lists = g.B.ReleaseBook.book.lists (g.B.ReleaseBook.meaning c.args.self.now.releases.now) in
-    record {
-      listed = all_read (ListedRow lists) c.args.self.now.rows.now c.loop-row.row-index c.row-item.result c.loop-row-test.true c.row-item.is c.args.self.now.listed;
     }
