@@ -1,11 +1,7 @@
-use Rattle.std.proofs.Common.{[], ◌∷◌, ◌++◌, string_bytes, sym, ap, ◌∙◌, arith, take_all}
-use Rattle.std.proofs.lemmas.List.{append-nil}
+use Rattle.std.proofs.Common.{[], ◌∷◌, ◌++◌, string_bytes, ap, ◌∙◌, arith, take_all}
 use Rattle.texts.specs.Forms.{fields}
 use Rattle.answers.proofs.Printing.{fields_step, fields_end}
 use Rattle.answers.proofs.print.printed_line.Goals as goal
-
-pub loop-value-init : goal.loop-value-init
-loop-value-init c = (omega arith, c.in_ok-text.ensures.ok ∙ sym (append-nil c.args.letter.now))
 
 pub loop-value-preserved : goal.loop-value-preserved
 loop-value-preserved c = (
