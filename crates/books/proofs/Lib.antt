@@ -1,4 +1,4 @@
 mod Checks
 mod Listing
 mod Lowest
-mod Places
+pub mod Places

@@ -1,8 +1,8 @@
-mod Calls
-mod Placing
-mod Handing
-mod Classes
-mod QueueTable
-mod PoolCalls
+pub mod Calls
+pub mod Placing
+pub mod Handing
+pub mod Classes
+pub mod QueueTable
+pub mod PoolCalls
 mod Leading
 mod RunLaws

@@ -113,7 +113,7 @@ module _ (qs : List FrameQueue) (f : ℕ) (q q' : FrameQueue) (l : f < length qs
   -- a put, by what the queue answered
   module _ (x : Instance) (range : true ≡ (admitted Frame f && sendable x)) (sound : SoundQueues qs)
       (ordered : Ascending upto (vec_items q.list) → Ascending upto (vec_items q'.list)) where
-    queue_put : true ≡ nat_lt (length (vec_items q.list)) q.places → Placed upto x (vec_items q.list) (vec_items q'.list)
+    pub queue_put : true ≡ nat_lt (length (vec_items q.list)) q.places → Placed upto x (vec_items q.list) (vec_items q'.list)
         → Putting (meaning_of qs) f x (Ok tt) (meaning_of (slice_set qs f q')) × SoundQueues (slice_set qs f q')
     queue_put free placed =
         let places = read_here (λ y. y.places) 0 qs f q l e in
@@ -123,7 +123,7 @@ module _ (qs : List FrameQueue) (f : ℕ) (q q' : FrameQueue) (l : f < length qs
               (placed_all (λ y. sendable y ≡ true) upto x _ _ placed (and_parts _ _ (sym range)).1 (rw before at (sound.in_range f))),
         )
 
-    queue_full : false ≡ nat_lt (length (vec_items q.list)) q.places → vec_items q'.list ≡ vec_items q.list
+    pub queue_full : false ≡ nat_lt (length (vec_items q.list)) q.places → vec_items q'.list ≡ vec_items q.list
         → Putting (meaning_of qs) f x (Err (record { reason = PlacesFull; place = place.Buffer; concerns = f })) (meaning_of (slice_set qs f q')) × SoundQueues (slice_set qs f q')
     queue_full full kept =
         let places = read_here (λ y. y.places) 0 qs f q l e in

@@ -25,7 +25,7 @@ all_arrivals P f (h ∷ hs) all = ⊎_elim
     (cases_eq h.frame f)
 
 -- what is read out keeps what holds of each element
-all_read : (P : Instance → Type 0) (n : ℕ) (xs : List Instance) → AllByRecursion P xs → AllByRecursion P (up_to_priority n xs)
+pub all_read : (P : Instance → Type 0) (n : ℕ) (xs : List Instance) → AllByRecursion P xs → AllByRecursion P (up_to_priority n xs)
 unfolding up_to_priority
 all_read P zero xs all = tt
 all_read P (suc n) xs all = All-append P (up_to_priority n xs) (of_priority (suc n) xs) (all_read P n xs all) (all_kept_by (λ x. nat_eq x.priority (suc n)) P xs all)

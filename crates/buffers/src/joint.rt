@@ -62,8 +62,10 @@ impl<L: SendBuffer, R: SendBuffer> SendBuffer for JointBuffer<L, R> {
     }
 
     fn places_of(&self, frame: u16) -> u32 {
-        if self.left_serves(frame) {
-            self.left.places_of(frame)
+        // the left is asked once: joint buffers may stand on the left of one another, and each level would double the questions
+        let places = self.left.places_of(frame);
+        if places > 0 {
+            places
         } else {
             self.right.places_of(frame)
         }

@@ -11,7 +11,7 @@ ghost use Rattle.buffers.specs.PoolLaws.{pool_in_range, read_ascends, none_outsi
 use crate::buffer::{SendBuffer, in_range};
 use crate::instance::Instance;
 use crate::places::{MOST, fit, given};
-use fields::limits::{Field, limits_of};
+use fields::limits::{Field, admits, limits_of};
 use fields::refusal::{MakingFault, Place, Reason, Refusal};
 use frame_places::FramePlaces;
 use held::{Held, next_for};
@@ -58,6 +58,7 @@ impl Pool {
     }
 }
 
+// A frame out of range is told before anything is looked at.
 impl SendBuffer for Pool {
     ghost meaning = { λ b. pool_meaning (all_places b.frames.items) b.held.items };
 
@@ -85,6 +86,9 @@ impl SendBuffer for Pool {
     }
 
     fn take(&mut self, frame: u16) -> Option<Instance> {
+        if !admits(Field::Frame, u64::from(frame)) {
+            return None;
+        }
         let at = next_for(frame, self.held.as_slice())?;
         let places = self.frames.get_mut(usize::from(frame))?;
         places.free += 1;
@@ -92,15 +96,17 @@ impl SendBuffer for Pool {
     }
 
     fn places_of(&self, frame: u16) -> u32 {
-        self.frames
-            .get(usize::from(frame))
-            .map_or(0, |places| u32::from(places.all))
+        if !admits(Field::Frame, u64::from(frame)) {
+            return 0;
+        }
+        u32::from(self.frames[usize::from(frame)].all)
     }
 
     fn waiting_for(&self, frame: u16) -> u32 {
-        self.frames.get(usize::from(frame)).map_or(
-            0,
-            |places| u32::from(places.all.saturating_sub(places.free)),
-        )
+        if !admits(Field::Frame, u64::from(frame)) {
+            return 0;
+        }
+        let places = &self.frames[usize::from(frame)];
+        u32::from(places.all.saturating_sub(places.free))
     }
 }

@@ -39,10 +39,10 @@ module _ (m : Message) (r : Bool) where
       and_mono (admitted field.Message m.number) _ _ (and_mono (admitted field.Frame m.frame) _ _ (and_mono (admitted field.Node m.node) _ _
       (and_mono (admitted field.Priority m.priority) _ _ (and_mono (admitted field.Size m.size) _ _ (and_front (admitted field.Deadline m.deadline) r)))))
 
-in_range_periodic : (m : Message) (t j : ℕ) → fits (line.Periodic m t j) ≡ true → in_range m ≡ true
+pub in_range_periodic : (m : Message) (t j : ℕ) → fits (line.Periodic m t j) ≡ true → in_range m ≡ true
 in_range_periodic m t j h = in_range_front m (admitted field.Period t && (admitted field.Jitter j && true)) h
 
-in_range_window : (m : Message) (n w : ℕ) → fits (line.Window m n w) ≡ true → in_range m ≡ true
+pub in_range_window : (m : Message) (n w : ℕ) → fits (line.Window m n w) ≡ true → in_range m ≡ true
 in_range_window m n w h = in_range_front m (admitted field.Releases n && (admitted field.Window w && true)) h
 
 -- The checks of a message in range, by what they look at.
@@ -111,7 +111,7 @@ else_none None = refl
 else_none (Some x) = refl
 
 -- The draft with one node more holds one N line more.
-node_held : (ls : List Line) (old new : Draft) (n a : ℕ) → DraftOf ls old → fits (line.Node n a) ≡ true → in_turn ls (line.Node n a) ≡ true
+pub node_held : (ls : List Line) (old new : Draft) (n a : ℕ) → DraftOf ls old → fits (line.Node n a) ≡ true → in_turn ls (line.Node n a) ≡ true
     → first_reason (table_rules ls (line.Node n a)) ≡ None → NodeAdded old new n a → DraftOf (ls ++ line.Node n a ∷ []) new
 node_held ls old new n a held f turn free added =
     let within_range = and_parts (admitted field.Node n) (admitted field.LastStart a && true) f in
@@ -144,18 +144,18 @@ told_entry m start e h = λ i. record {
 }
 
 -- A line that gives a message, and no node.
-record Gives (l : Line) (m : Message) : Type 0 where
+pub record Gives (l : Line) (m : Message) : Type 0 where
   pub message : messages_of (l ∷ []) ≡ m ∷ []
   pub no_node : (n : ℕ) → start_of (l ∷ []) n ≡ None
 
-gives_periodic : (m : Message) (t j : ℕ) → Gives (line.Periodic m t j) m
+pub gives_periodic : (m : Message) (t j : ℕ) → Gives (line.Periodic m t j) m
 gives_periodic m t j = record { message = refl; no_node = λ n. refl }
 
-gives_window : (m : Message) (n w : ℕ) → Gives (line.Window m n w) m
+pub gives_window : (m : Message) (n w : ℕ) → Gives (line.Window m n w) m
 gives_window m n w = record { message = refl; no_node = λ k. refl }
 
 -- The draft with one message more holds its line more.
-message_held : (ls : List Line) (old new : Draft) (l : Line) (m : Message) → DraftOf ls old → Gives l m → MessageAdded old new m → DraftOf (ls ++ l ∷ []) new
+pub message_held : (ls : List Line) (old new : Draft) (l : Line) (m : Message) → DraftOf ls old → Gives l m → MessageAdded old new m → DraftOf (ls ++ l ∷ []) new
 message_held ls old new l m held gives added =
     let starts : (n : ℕ) → start_of (ls ++ l ∷ []) n ≡ start_of ls n = λ n. start_more ls (l ∷ []) n ∙ ap (or_else (start_of ls n)) (gives.no_node n) ∙ else_none (start_of ls n) in
     let told : Told = record { message = m; latest = unwrap_or (start_of ls m.node) 0 } in
@@ -180,14 +180,14 @@ get_d_none (suc k) zero = refl
 get_d_none (suc k) (suc n) = get_d_none k n
 
 -- A new draft holds the bus line.
-bus_held : (d : Draft) (g s l q : ℕ) → Begun d g s l q → DraftOf (line.Bus g s l q ∷ []) d
+pub bus_held : (d : Draft) (g s l q : ℕ) → Begun d g s l q → DraftOf (line.Bus g s l q ∷ []) d
 bus_held d g s l q b = record {
   bus = b.bus;
   nodes = λ n. ap (λ xs. get_or xs n None) b.nodes ∙ get_d_none 65 n;
   entries = ap (map entry_told) b.entries;
 }
 
-bus_same : (g s l q : ℕ) → fits (line.Bus g s l q) ≡ true → first_reason (bus_checks g s l q) ≡ first_reason (table_rules [] (line.Bus g s l q))
+pub bus_same : (g s l q : ℕ) → fits (line.Bus g s l q) ≡ true → first_reason (bus_checks g s l q) ≡ first_reason (table_rules [] (line.Bus g s l q))
 bus_same g s l q f =
     let p = and_mono (admitted field.Cycle g) _ _ (and_mono (admitted field.Offset s) _ _ (and_mono (admitted field.Minislot l) _ _ (and_front (admitted field.Minislots q) true))) f in
     ap (λ b. cond (not b) (Some OutOfRange) (first_reason (record { holds = ltb g (s + q * l); reason = SegmentTooLong } ∷ []))) p

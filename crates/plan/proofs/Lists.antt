@@ -1,8 +1,8 @@
 -- Tests over lists, one element at a time.
-use Rattle.std.proofs.Common.{◌≡◌, ℕ, zero, suc, ◌+◌, ◌<◌, Bool, true, List, [], ◌∷◌, ◌++◌, length, get_or, take, drop, set, refl, le_of_suc-le-suc, not-suc-le-zero}
+use Rattle.std.proofs.Common.{◌≡◌, ℕ, zero, suc, ◌+◌, ◌<◌, Bool, true, false, ◌||◌, List, [], ◌∷◌, ◌++◌, length, get_or, take, drop, set, refl, le_of_suc-le-suc, not-suc-le-zero}
 use Rattle.std.proofs.lemmas.List.{drop_more, take-append-drop}
 use Rattle.std.proofs.lemmas.Bool.{and_parts, and_from}
-use Rattle.plan.specs.Entries.{every}
+use Rattle.plan.specs.Entries.{every, some}
 
 -- A test that every element passes, after a write.
 pub every_set : {X : Type 0} (p : X → Bool) (xs : List X) (i : ℕ) (x : X) → every p xs ≡ true → p x ≡ true → every p (set xs i x) ≡ true
@@ -23,3 +23,14 @@ split_read xs i x h e =
     let d = drop_more xs i x h in
     let t = take-append-drop i xs in
     cc
+
+-- One test or the other, asked of every element together.
+mixed : (a b c d : Bool) → ((a || b) || (c || d)) ≡ ((a || c) || (b || d))
+mixed true b c d = refl
+mixed false true true d = refl
+mixed false true false d = refl
+mixed false false c d = refl
+
+pub some_or : {X : Type 0} (p q : X → Bool) (xs : List X) → some (λ x. p x || q x) xs ≡ (some p xs || some q xs)
+some_or p q [] = refl
+some_or p q (x ∷ xs) = rw (some_or p q xs) (mixed (p x) (q x) (some p xs) (some q xs))

@@ -1,5 +1,5 @@
 -- What the calls of a draft are checked for, and what the draft holds after them.
-use Rattle.std.specs.Prelude.{◌≡◌, ℕ, ◌+◌, ◌-◌, ◌*◌, Bool, not, ◌&&◌, List, [], ◌∷◌, replicate, is_some, Some, None, vec_items, Option, ◌==◌, nat_lt, slice_index_or, slice_set}
+use Rattle.std.specs.Prelude.{◌≡◌, ℕ, ◌+◌, ◌-◌, ◌*◌, Bool, not, ◌&&◌, List, [], ◌∷◌, replicate, is_some, Some, None, vec_items, Option, ◌==◌, nat_lt, slice_index_or, slice_set, ◌||◌}
 use Rattle.std.specs.Option.{unwrap_or}
 use Rattle.fields.specs.Limits.{admitted, Admitted}
 use Rattle.fields.specs.Refusals.{Check}
@@ -72,6 +72,10 @@ of_another_node m e = e.frame == m.frame && not (e.node == m.node)
 
 abbrev pub as_urgent : Given → Entry → Bool
 as_urgent m e = e.frame == m.frame && e.priority == m.priority
+
+-- The entry has the message's number, or its frame at another node or with its priority.
+abbrev pub clashing : Given → Entry → Bool
+clashing m e = numbered m.number e || (of_another_node m e || as_urgent m e)
 
 -- The checks of a message. Its last start is that of its node.
 abbrev pub message_checks : Draft → Given → List Check

@@ -1,11 +1,11 @@
 // The calls of a draft: the bus, a node, a message.
-ghost use Rattle.std.specs.Prelude.{◌≡◌, ◌<◌, true, IfSome, Some, None, MatchResult, OnErr};
+ghost use Rattle.std.specs.Prelude.{◌≡◌, ◌<◌, true, ◌||◌, IfSome, Some, None, MatchResult, OnErr};
 ghost use Rattle.fields.specs.Limits.{admitted, Admitted};
 ghost use Rattle.fields.specs.Refusals.{first_reason, Verdict, Made};
 ghost use Rattle.fields.specs.declared.limits.Field.TheVariants as field;
 ghost use Rattle.fields.specs.declared.refusal.Place.TheVariants as place;
 ghost use Rattle.plan.specs.Entries.{some, numbered};
-ghost use Rattle.plan.specs.Drafts.{latest_start_of, entries_of, bus_checks, IsBus, Begun, node_checks, NodeAdded, in_range, InRange, of_another_node, as_urgent, message_checks, Describes, MessageAdded};
+ghost use Rattle.plan.specs.Drafts.{latest_start_of, entries_of, bus_checks, IsBus, Begun, node_checks, NodeAdded, in_range, InRange, of_another_node, as_urgent, clashing, message_checks, Describes, MessageAdded};
 
 use crate::draft::{Draft, Message};
 use delay::bus::Bus;
@@ -115,11 +115,42 @@ impl Draft {
             .any(|e| e.frame == message.frame && e.node != message.node)
     }
 
-    // Whether the draft has the message's priority in its frame.
-    fn has_priority(&self, message: &Message) -> bool
-        ensures { result ≡ some (as_urgent message.now) (entries_of self.now) }
+    // Whether an entry clashes with the message. One pass for all three clashes: an accepted message asks the entries no more.
+    fn has_clash(&self, message: &Message) -> bool
+        ensures { result ≡ some (clashing message.now) (entries_of self.now) }
     {
-        self.entries.iter().any(|e| e.frame == message.frame && e.priority == message.priority)
+        self.entries.iter().any(|e| {
+            e.number == message.number
+                || (e.frame == message.frame && e.node != message.node
+                    || e.frame == message.frame && e.priority == message.priority)
+        })
+    }
+
+    // The same, by the three clashes.
+    fn clashes(&self, message: &Message) -> bool
+        ensures { result ≡ (some (numbered message.now.number) (entries_of self.now)
+            || (some (of_another_node message.now) (entries_of self.now) || some (as_urgent message.now) (entries_of self.now))) }
+    {
+        self.has_clash(message)
+    }
+
+    // The reason that a message is refused for which clashes with an entry.
+    fn reason_of_clash(&self, message: &Message) -> Reason
+        requires within { in_range message.now ≡ true }
+        requires clash { (some (numbered message.now.number) (entries_of self.now)
+            || (some (of_another_node message.now) (entries_of self.now) || some (as_urgent message.now) (entries_of self.now))) ≡ true }
+        ensures { first_reason (message_checks self.now message.now) ≡ Some result }
+    {
+        if self.has_number(message.number) {
+            return Reason::NumberUsed;
+        }
+        if self.latest_of(message.node).is_none() {
+            return Reason::NodeUnknown;
+        }
+        if self.has_frame_elsewhere(message) {
+            return Reason::FrameOfAnotherNode;
+        }
+        Reason::PriorityUsed
     }
 
     // The entry of a message, with the last start of its node; or the reason that the message is refused for.
@@ -129,16 +160,10 @@ impl Draft {
         if !all_in_range(message) {
             return Err(Reason::OutOfRange);
         }
-        if self.has_number(message.number) {
-            return Err(Reason::NumberUsed);
+        if self.clashes(message) {
+            return Err(self.reason_of_clash(message));
         }
         let latest = self.latest_of(message.node).ok_or(Reason::NodeUnknown)?;
-        if self.has_frame_elsewhere(message) {
-            return Err(Reason::FrameOfAnotherNode);
-        }
-        if self.has_priority(message) {
-            return Err(Reason::PriorityUsed);
-        }
         if latest + message.size - 1 > self.bus.minislots {
             return Err(Reason::SizeTooLong);
         }

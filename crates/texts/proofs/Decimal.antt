@@ -83,6 +83,23 @@ none_after_zero (b ∷ bs) more all some n rest ends e =
     (λ nz. let f = first_found (48 ∷ b ∷ (bs ++ more)) rest n e in omega (arith, (first_byte n).2 (omega arith)))
     (cases_eq n 0)
 
+-- No number begins with a zero whose next byte is a digit.
+pub none_after_idle : (bs : List ℕ) → get_or bs 0 0 ≡ 48 → is_ascii_digit (get_or bs 1 0) ≡ true → NoNumber bs
+none_after_idle [] zero_first digit = absurd (omega arith)
+none_after_idle (a ∷ []) zero_first digit = let d = is_digit 0 digit in absurd (omega arith)
+none_after_idle (a ∷ b ∷ bs) zero_first digit = subst (λ x. NoNumber (x ∷ b ∷ bs)) (sym zero_first) (none_after_zero (b ∷ []) bs (digit, tt) (omega arith))
+
+-- Two digits or more begin above zero, where no digit comes after a zero.
+pub first_above : (bs ds rest : List ℕ) → bs ≡ ds ++ rest → AllByRecursion (λ b. is_ascii_digit b ≡ true) ds
+    → (get_or bs 0 0 ≡ 48 → is_ascii_digit (get_or bs 1 0) ≡ false) → 1 < length ds → 48 < get_or ds 0 0
+first_above bs [] rest e all never more = absurd (omega arith)
+first_above bs (a ∷ []) rest e all never more = absurd (omega arith)
+first_above bs (a ∷ b ∷ ds) rest e all never more =
+    ⊎_elim
+    (λ z. absurd (both_ways (is_ascii_digit b) (rw (ap (λ l. get_or l 1 0) e) at (never (ap (λ l. get_or l 0 0) e ∙ z))) all.1.0))
+    (λ nz. let d = is_digit a all.0 in omega arith)
+    (cases_eq a 48)
+
 -- The value of the digit at a place.
 pub digit_at : (ds : List ℕ) → AllByRecursion (λ b. is_ascii_digit b ≡ true) ds → (i : ℕ) → i < length ds
     → (digit_value (get_or ds i 0) + 48 ≡ get_or ds i 0) × (get_or ds i 0 ≤ 57)

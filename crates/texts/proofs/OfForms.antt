@@ -81,7 +81,7 @@ letter_of_kind (line.Periodic m t j) = refl
 letter_of_kind (line.Window m n w) = refl
 
 -- A kind is said by its letter with its count of numbers only.
-kind_says : (k : Kind) (letter count : ℕ) → kind_by letter count ≡ Some k → (letter ≡ letter_by k) × (count ≡ length (fields_of k))
+pub kind_says : (k : Kind) (letter count : ℕ) → kind_by letter count ≡ Some k → (letter ≡ letter_by k) × (count ≡ length (fields_of k))
 kind_says kind.Bus letter count e = (grind (arith, nat_tests), grind (arith, nat_tests))
 kind_says kind.Node letter count e = (grind (arith, nat_tests), grind (arith, nat_tests))
 kind_says kind.Periodic letter count e = (grind (arith, nat_tests), grind (arith, nat_tests))

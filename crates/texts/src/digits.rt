@@ -39,9 +39,14 @@ fn digits_ahead(bytes: &[u8]) -> usize
 pub fn first_number(bytes: &[u8]) -> Option<Number<'_>>
     ensures { MatchOption result (NoNumber bytes.now) (λ n. Reads bytes.now n.rest.now n.value) }
 {
+    // before the digits are counted: any number of them may follow a zero
+    if let [first, second, ..] = bytes {
+        if *first == b'0' && second.is_ascii_digit() {
+            return None;
+        }
+    }
     let (digits, rest) = bytes.split_at(digits_ahead(bytes));
-    let (first, others) = digits.split_first()?;
-    if *first == b'0' && !others.is_empty() {
+    if digits.is_empty() {
         return None;
     }
     Some(Number {

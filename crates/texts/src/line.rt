@@ -82,9 +82,9 @@ impl Line {
 
 // The kind of line that a letter and its count of numbers say.
 fn kind_of(form: &Form) -> Option<Kind>
-    ensures { result ≡ kind_by form.now.letter (length form.now.values.items) }
+    ensures { result ≡ kind_by form.now.letter form.now.count }
 {
-    match (char::from(form.letter), form.values.len()) {
+    match (char::from(form.letter), form.count) {
         ('B', 4) => Some(Kind::Bus),
         ('N', 2) => Some(Kind::Node),
         ('P', 8) => Some(Kind::Periodic),
@@ -218,7 +218,7 @@ pub fn line_of(bytes: &[u8], phase: Phase, number: u32) -> Result<Step, LineFaul
     let form = form_of(bytes).ok_or(malformed)?;
     let kind = kind_of(&form).ok_or(malformed)?;
     let next = phase_after(phase, kind).ok_or(malformed)?;
-    let line = figures_of(kind, form.values.as_slice()).ok_or(LineFault {
+    let line = figures_of(kind, &form.values[..form.count]).ok_or(LineFault {
         reason: Reason::OutOfRange,
         line: number,
     })?;
